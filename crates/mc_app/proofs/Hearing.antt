@@ -1,4 +1,4 @@
--- What a judge has heard of a file.
+-- What a judge has read of a file.
 use Rattle.std.proofs.Common.{◌≡◌, ◌≤◌, ◌++◌, ◌+◌, ℕ, zero, suc, Bool, List, [], ◌∷◌, length, refl, ap, arith, take, drop, subst, sym, ap₂, ◌∙◌}
 use Rattle.std.proofs.Math.Seq.{take-add}
 use Rattle.mc_lines.specs.Cert.Lines.{lines_of}
@@ -20,7 +20,7 @@ use Rattle.mc_app.specs.Documents.{IsHeard, IsRightVerdict, MeansForRuns}
 judges_too : (k : Knowledge) (well : RawState → Bool) (f g : Flow) (ds es : List Def) → f ≡ g → ds ≡ es → IsJudge k well f ds → IsJudge k well g es
 judges_too k well f g ds es e d h = subst (λ (xs : List Def). IsJudge k well g xs) d (subst (λ (x : Flow). IsJudge k well x ds) e h)
 
--- the judge has heard a piece more
+-- the judge has read a piece more
 pub heard_more : (text piece : List ℕ) (old new : Judge) → StaysFor old new → IsHeard text old → Hears piece old new → IsHeard (text ++ piece) new
 heard_more text piece old new same heard hears k well judge =
     let before = judges_too k well new.flow.now old.flow.now new.defs.now old.defs.now same.0 same.1 judge in
@@ -30,7 +30,7 @@ heard_more text piece old new same heard hears k well judge =
 pub front_more : (bytes text piece : List ℕ) (at n : ℕ) → text ≡ take at bytes → piece ≡ take n (drop at bytes) → text ++ piece ≡ take (at + n) bytes
 front_more bytes text piece at n e d = ap₂ (λ (a b : List ℕ). a ++ b) e d ∙ sym (take-add at n bytes)
 
--- the judge that has heard nothing
+-- the judge that has read nothing
 pub fresh : (flow : Flow) (defs : List Def) (judge : Judge) → judge.flow.now ≡ flow → judge.defs.now ≡ defs
     → ((k : Knowledge) (well : RawState → Bool) → IsJudge k well flow defs → HasHeard k well [] judge) → IsHeard [] judge
 fresh flow defs judge e d heard k well right = heard k well (judges_too k well judge.flow.now flow judge.defs.now defs e d right)
@@ -39,7 +39,7 @@ module _ (flow : Flow) (defs : List Def) (judge : Judge) (same_flow : judge.flow
   abbrev back : (k : Knowledge) (well : RawState → Bool) → IsJudge k well flow defs → IsJudge k well judge.flow.now judge.defs.now
   back k well right = judges_too k well flow judge.flow.now defs judge.defs.now (sym same_flow) (sym same_defs) right
 
-  -- what is said of what was heard is said rightly
+  -- what is said of what was read is said rightly
   pub right_verdict : (v : Verdict)
       → ((k : Knowledge) (well : RawState → Bool) (t : List ℕ) → IsJudge k well judge.flow.now judge.defs.now → HasHeard k well t judge → IsVerdict k well judge.flow.now judge.defs.now (lines_of t) v)
       → IsRightVerdict flow defs text v

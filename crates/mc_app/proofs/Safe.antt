@@ -1,6 +1,5 @@
 -- A program whose flow graph is safe is safe itself.
-use Rattle.std.proofs.Common.{◌≡◌, ◌∙◌, ◌&&◌, ℕ, Bool, true, false, List, [], ◌∷◌, Some, refl, subst, sym}
-use Rattle.std.specs.List.{find, list_any}
+use Rattle.std.proofs.Common.{◌≡◌, ◌&&◌, ℕ, List, Some, subst, sym}
 use Rattle.mc_c_syntax.specs.Ast.Names.{is_same}
 use Rattle.mc_c_syntax.specs.Ast.Trees.{FunctionTree, UnitTree}
 use Rattle.mc_flow.specs.declared.defs.rules.Def.{Def}
@@ -19,6 +18,7 @@ use Rattle.mc_c_types.specs.Typing.{IsWellTyped, is_entry}
 use Rattle.mc_load.specs.Inputs.Texts.{IsWellFormed}
 use Rattle.mc_load.specs.Lowered.Graphs.{IsGraphOf}
 use Rattle.mc_app.specs.Checks.{IsSafeUnit}
+use Rattle.mc_run.proofs.InterpretLemmas.Entries.{find_any, first_two}
 
 -- texts that are read declare variables at different places
 abbrev pub ReadApart : Type 0
@@ -45,23 +45,6 @@ safe_graph trees differ apart entries start unit defs flow sound graph safe =
     (main.0, main.1, trees unit defs start main.0 graph.graph graph.function graph.out graph.count sound.typed distinct main.1 graph.program graph.lowered safe_too)
 
 -- ---- a well typed program has its entry
-
-found_first : {X : Type 0} (p q : X → Bool) (x : X) (xs : List X) (b d : Bool) → q x ≡ b → p x ≡ d → (p x ≡ true → q x ≡ true) → list_any p (x ∷ xs) ≡ true
-    → (list_any p xs ≡ true → (y : X) × (find q xs ≡ Some y)) → (y : X) × (find q (x ∷ xs) ≡ Some y)
-found_first p q x xs true d h g implies e later = (x, rw h refl)
-found_first p q x xs false true h g implies e later = let two : false ≡ true = sym h ∙ implies g in cc
-found_first p q x xs false false h g implies e later =
-    let rest : list_any p xs ≡ true = rw g at e in
-    let r = later rest in
-    (r.0, rw h r.1)
-
-find_any : {X : Type 0} (p q : X → Bool) (xs : List X) → ((x : X) → p x ≡ true → q x ≡ true) → list_any p xs ≡ true → (x : X) × (find q xs ≡ Some x)
-find_any p q [] implies e = cc
-find_any p q (x ∷ xs) implies e = found_first p q x xs (q x) (p x) refl refl (implies x) e (find_any p q xs implies)
-
-first_two : (a b : Bool) → (a && b) ≡ true → a ≡ true
-first_two true b e = refl
-first_two false b e = cc
 
 pub has_entry : HasEntries
 has_entry unit start typed =

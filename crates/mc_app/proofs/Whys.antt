@@ -1,6 +1,6 @@
 -- Causes, from those of the parts.
-use Rattle.std.proofs.Common.{◌≡◌, ◌∙◌, List, subst}
-use Rattle.std.specs.Prelude.{None, IfOk, MatchOption, MatchResult, Some, Option, Result, Ok, Err}
+use Rattle.std.proofs.Common.{◌≡◌, ◌∙◌, List}
+use Rattle.std.specs.Prelude.{None, MatchOption, Some, Option}
 use Rattle.mc_c_syntax.specs.Ast.Trees.{UnitTree}
 use Rattle.mc_flow.specs.declared.defs.rules.Def.{Def}
 use Rattle.mc_load.specs.Inputs.Inputs.{Holds}
@@ -26,19 +26,3 @@ stay_ran old new r unit defs (To ending) stays why = λ script h. why script (st
 pub at_none : {X : Type 0} (o : Option X) (P : Type 0) (Q : X → Type 0) → o ≡ None → MatchOption o P Q → P
 at_none None P Q e m = m
 at_none (Some x) P Q e m = cc
-
-pub at_some : {X : Type 0} (o : Option X) (x : X) (P : Type 0) (Q : X → Type 0) → o ≡ Some x → MatchOption o P Q → Q x
-at_some None x P Q e m = cc
-at_some (Some y) x P Q e m = let same : y ≡ x = cc in subst Q same m
-
-pub at_ok : {X Y : Type 0} (r : Result X Y) (x : X) (P : X → Type 0) (Q : Y → Type 0) → r ≡ Ok x → MatchResult r P Q → P x
-at_ok (Ok y) x P Q e m = let same : y ≡ x = cc in subst P same m
-at_ok (Err y) x P Q e m = cc
-
-pub only_ok : {X Y : Type 0} (r : Result X Y) (x : X) (P : X → Type 0) → r ≡ Ok x → IfOk r P → P x
-only_ok (Ok y) x P e m = let same : y ≡ x = cc in subst P same m
-only_ok (Err y) x P e m = cc
-
-pub at_err : {X Y : Type 0} (r : Result X Y) (y : Y) (P : X → Type 0) (Q : Y → Type 0) → r ≡ Err y → MatchResult r P Q → Q y
-at_err (Ok x) y P Q e m = cc
-at_err (Err x) y P Q e m = let same : x ≡ y = cc in subst Q same m

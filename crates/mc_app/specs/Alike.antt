@@ -15,7 +15,7 @@ pub record NamesSame (a : Analyse) (c : Check) : Type 0 where
   pub definitions : c.definitions.now ≡ a.definitions.now
   pub start : c.start.now ≡ a.start.now
 
--- it is told what the files of an analysis hold, and they hold it afterwards
+-- it is known what the files of an analysis hold, and they hold it afterwards
 pub record AreStill (before after : Holds) (a : Analyse) : Type 0 where
   pub text : List ℕ
   pub definitions : List ℕ

@@ -192,7 +192,7 @@ EndsWith holds after words old new statuses.Device = Unit {0}
 EndsWith holds after words old new statuses.Memory = Unit {0}
 EndsWith holds after words old new status = Answers holds after words old new status
 
--- nothing was added where this is told; or the text of an answer that has its cause, or the front of it, and the answer's document
+-- nothing was added where this is known; or the text of an answer that has its cause, or the front of it, and the answer's document
 -- stands where the words want it
 abbrev pub PrintsPart : (holds after : Holds) → List (List ℕ) → Option (List ℕ) → Option (List ℕ) → Type 0
 PrintsPart holds after words old new =

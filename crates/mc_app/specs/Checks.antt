@@ -42,7 +42,7 @@ IsSafe start text definitions =
     (unit : UnitTree) × IsProgramHere start text unit
     × ((defs : List Def) × AreDefinitions unit defs definitions × IsSafeUnit start unit defs)
 
--- where the program and its definitions are told, no run of the program has a fault
+-- where the program and its definitions are known, no run of the program has a fault
 abbrev pub IsSafeWhereTold : Holds → Sources → Type 0
 IsSafeWhereTold holds s =
     WhereTold (holds s.program.now) (λ text. WhereTold (holds s.definitions.now) (λ definitions. IsSafe s.start.now text definitions))

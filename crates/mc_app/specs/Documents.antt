@@ -1,4 +1,4 @@
--- What a document is for a flow graph, and what a judge has heard of it.
+-- What a document is for a flow graph, and what a judge has read of it.
 use Rattle.std.specs.Prelude.{◌≡◌, ℕ, Bool, List, length}
 use Rattle.mc_lines.specs.Cert.Lines.{lines_of}
 use Rattle.mc_flow.specs.declared.defs.rules.Def.{Def}
@@ -35,7 +35,7 @@ abbrev pub IsVerdictOn : Flow → List Def → List ℕ → Verdict → Type 0
 IsVerdictOn flow defs document verdict =
     Tells flow defs document verdict × IsRightVerdict flow defs document verdict × MeansForRuns flow defs verdict
 
--- the judge has heard the text, by whatever judges rightly
+-- the judge has read the text, by whatever judges rightly
 abbrev pub IsHeard : List ℕ → Judge → Type 0
 IsHeard text judge =
     (k : Knowledge) (well : RawState → Bool) → IsJudge k well judge.flow.now judge.defs.now → HasHeard k well text judge

@@ -30,7 +30,7 @@ line_fault_text line_fault.Form = codes "Form"
 line_fault_text line_fault.Version = codes "Version"
 line_fault_text line_fault.NoMemory = codes "NoMemory"
 
--- the number of a line, and a comma behind it
+-- the number of a line, and a comma after it
 abbrev pub line_text : ℕ → List ℕ
 line_text number = codes "line " ++ decimal number ++ codes ", "
 

@@ -10,7 +10,7 @@ use Rattle.mc_app.specs.declared.words.words.Run.{Run}
 use Rattle.mc_app.specs.declared.running.Ran.{Ran}
 use Rattle.mc_app.specs.declared.running.Ran.TheVariants.{TooBig, To}
 
--- where the script is told, it is too big; or with its lines and the fuel the program runs to this
+-- where the script is known, it is too big; or with its lines and the fuel the program runs to this
 abbrev pub IsWhyRan : Holds → Run → UnitTree → List Def → Ran → Type 0
 IsWhyRan holds r unit defs TooBig = WhereTold (holds r.script.now) (λ script. 2 ^ 20 < length script)
 IsWhyRan holds r unit defs (To ending) =

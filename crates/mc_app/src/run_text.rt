@@ -35,8 +35,7 @@ fn print_fault(
     out.extend_from_slice(b"fault: ")?;
     print_kind(out, kind)?;
     out.extend_from_slice(b" at ")?;
-    print_place(alloc, out, place)?;
-    Ok(())
+    print_place(alloc, out, place)
 }
 
 fn print_ending(alloc: Global, out: &mut Vec<u8>, ending: Ending) -> Result<(), AllocError>

@@ -97,10 +97,7 @@ fn keep<F: Files>(files: &mut F, reply: &Reply<'_>) -> Result<(), FileFault>
         return Ok(());
     };
     match reply.answer.document() {
-        Some(text) => {
-            save(files, name, text)?;
-            Ok(())
-        }
+        Some(text) => save(files, name, text),
         None => Ok(()),
     }
 }

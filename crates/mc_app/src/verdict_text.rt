@@ -9,14 +9,13 @@ use mc_document::judge::{Refusal, Verdict};
 use mc_lines::cert::LineFault;
 use std::alloc::{AllocError, Global};
 
-// The number of a line, and a comma behind it.
+// The number of a line, and a comma after it.
 fn print_line(alloc: Global, out: &mut Vec<u8>, number: u64) -> Result<(), AllocError>
     ensures { OnOk result (out.new.items ≡ out.old.items ++ line_text number) }
 {
     out.extend_from_slice(b"line ")?;
     print_number(alloc, out, number)?;
-    out.extend_from_slice(b", ")?;
-    Ok(())
+    out.extend_from_slice(b", ")
 }
 
 fn print_line_fault(out: &mut Vec<u8>, fault: LineFault) -> Result<(), AllocError>
@@ -41,8 +40,7 @@ fn print_premise(
 {
     out.extend_from_slice(name.as_bytes())?;
     out.extend_from_slice(b", premise ")?;
-    print_number(alloc, out, premise as u64)?;
-    Ok(())
+    print_number(alloc, out, premise as u64)
 }
 
 fn print_mistake(alloc: Global, out: &mut Vec<u8>, refusal: &Refusal) -> Result<(), AllocError>

@@ -11,8 +11,8 @@ mod named;
 mod names;
 mod rules;
 
-pub use folding::{NamedRule, fold_ind, fold_seg};
+pub use folding::{fold_ind, fold_seg};
 pub use goals::meets_goal;
 pub use laws::{kinds_are_there, names_are_there};
 pub use named::{are_distinct, are_named};
-pub use rules::{FoldInd, FoldSeg};
+pub use rules::{FoldIndRule, FoldSegRule};

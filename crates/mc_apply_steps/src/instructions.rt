@@ -2,10 +2,8 @@
 
 mod arguments;
 mod dispatch;
-mod rule;
 mod shapes;
 
 pub use arguments::{are_known, is_known, put_operand, put_operands};
 pub use dispatch::{code_at, step};
-pub use rule::InstrRule;
 pub use shapes::{assert_shape, assume_shape};

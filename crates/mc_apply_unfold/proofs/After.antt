@@ -46,7 +46,7 @@ module _ (nodes : List NodeId) (stop : NodeId) (ends : List NodeId) where
   calls_past zero (c ∷ calls) e = absurd (cc e)
   calls_past (suc place) (c ∷ calls) e = ap (λ l. call_edge nodes c ∷ l) (calls_past place calls e)
 
-  -- at its place a call goes on, between those before it and those behind it
+  -- at its place a call goes on, between those before it and those after it
   pub calls_around : (place : ℕ) (calls : List Call) (call : Call) → slice_get calls place ≡ Some call
       → map (call_edge nodes) (take place calls) ++ (call_segment nodes stop ends call ∷ map (call_edge nodes) (drop (suc place) calls)) ≡ calls_to nodes stop ends place calls
   calls_around place [] call e = absurd (cc e)
@@ -55,7 +55,7 @@ module _ (nodes : List NodeId) (stop : NodeId) (ends : List NodeId) where
       ap (λ c. call_segment nodes stop ends c ∷ map (call_edge nodes) calls) same
   calls_around (suc place) (c ∷ calls) call e = ap (λ l. call_edge nodes c ∷ l) (calls_around place calls call e)
 
--- edges before a call, the call as a segment, and edges behind it
+-- edges before a call, the call as a segment, and edges after it
 pub around_edges : (s t u w : State) (nodes : List NodeId) (stop : NodeId) (ends : List NodeId) (place : ℕ) (calls : List Call) (call : Call) (e : Edge)
     → slice_get calls place ≡ Some call → t ≡ with_edges s (map (call_edge nodes) (take place calls)) → e ≡ call_segment nodes stop ends call
     → u ≡ with_edges t (e ∷ []) → w ≡ with_edges u (map (call_edge nodes) (drop (place + 1) calls)) → w ≡ with_edges s (calls_to nodes stop ends place calls)
@@ -71,7 +71,7 @@ around_edges s t u w nodes stop ends place calls call e there before is one behi
     ∙ ap (λ n. with_edges s (front ++ (segment ∷ map (call_edge nodes) (drop n calls)))) count
     ∙ ap (with_edges s) (calls_around nodes stop ends place calls call there)
 
--- edges of the calls before a place and of those behind it are those of the calls without the one there
+-- edges of the calls before a place and of those after it are those of the calls without the one there
 pub without_call : (s t u : State) (nodes : List NodeId) (calls : List Call) (place : ℕ)
     → t ≡ with_edges s (map (call_edge nodes) (take place calls)) → u ≡ with_edges t (map (call_edge nodes) (drop (place + 1) calls))
     → u ≡ with_edges s (map (call_edge nodes) (remove calls place))
@@ -129,7 +129,7 @@ module _ (name_there : NameIsThere) (kinds : Kinds) (nodes : List NodeId) (there
   pub segment_there : (stop : NodeId) (ends : List NodeId) (call : Call) → AreNodes kinds (stop ∷ ends) → AreNodes kinds (nodes_of (call_segment nodes stop ends call))
   segment_there stop ends call far = (name_there kinds nodes call.at there, names_there call.args (stop ∷ ends) far)
 
-  -- the nodes of a segment to the first one and some behind it
+  -- the nodes of a segment to the first one and some after it
   pub front_there : (at : NodeId) (args : List NodeId) (pred : PredId) (n : ℕ) → AreNodes kinds (at ∷ args)
       → AreNodes kinds (nodes_of (Seg at args pred (node_of nodes 0) (take n (drop 1 nodes))))
   front_there at args pred n far = (

@@ -23,7 +23,7 @@ module _ (know : Test) (defs : List Def) (pred : PredId) (node : NodeId) (ends :
   pub ends_here : true ≡ here → true ≡ ends_back_at know defs pred node i (drop i ends)
   ends_here is = ap (λ b. b || later) is ∙ sym opened
 
-  -- after one that is not, those behind it are left
+  -- after one that is not, those after it are left
   pub ends_later : false ≡ here → ends_back_at know defs pred node (i + 1) (drop (i + 1) ends) ≡ ends_back_at know defs pred node i (drop i ends)
   ends_later is =
       let count : i + 1 ≡ suc i = omega arith in

@@ -10,7 +10,7 @@ none_equal : (as' : List NodeId) → equal_atoms as' [] ≡ []
 none_equal [] = refl
 none_equal (a ∷ as') = refl
 
--- a node, and those behind it
+-- a node, and those after it
 equal_more : (a : NodeId) (as' bs : List NodeId) → equal_atoms (a ∷ as') bs ≡ equal_atoms (a ∷ []) bs ++ equal_atoms as' (drop 1 bs)
 equal_more a as' [] = sym (none_equal as')
 equal_more a as' (b ∷ bs) = refl

@@ -12,7 +12,7 @@ use Rattle.mc_pure.specs.Pure.{Kinds, IsWellFormed}
 use Rattle.mc_rules_logic.specs.Unfold.Unfolded.{own_places}
 
 module _ {X : Type 0} where
-  -- from a place on there is the item there, and the others behind it
+  -- from a place on there is the item there, and the others after it
   pub item_here : (xs : List X) (i : ℕ) (x : X) → i < length xs → x ≡ get_or xs i x → drop i xs ≡ x ∷ drop (i + 1) xs
   item_here xs i x inside is = drop_more xs i x inside ∙ ap (λ y. y ∷ drop (i + 1) xs) (sym is)
 
@@ -27,7 +27,7 @@ module _ {X : Type 0} where
   found_here (y ∷ xs) zero x inside is = ap (λ z. Some z) (sym is)
   found_here (y ∷ xs) (suc i) x inside is = let within : i < length xs = omega arith in found_here xs i x within is
 
-  -- all of a list is taken, also behind a place
+  -- all of a list is taken, also after a place
   whole : (xs : List X) → take (length xs) xs ≡ xs
   whole [] = refl
   whole (x ∷ xs) = ap (λ l. x ∷ l) (whole xs)
@@ -36,7 +36,7 @@ module _ {X : Type 0} where
   rest_whole xs n = ap (λ m. take m (drop n xs)) (sym (length-drop n xs)) ∙ whole (drop n xs)
 
 module _ {X Y : Type 0} where
-  -- what an item becomes is put behind what those before it became
+  -- what an item becomes is put after what those before it became
   pub image_put : (F : X → Y) (xs : List X) (i : ℕ) (x : X) (old new : List Y) (y : Y) → i < length xs → x ≡ get_or xs i x
       → new ≡ old ++ y ∷ [] → y ≡ F x → old ++ map F (drop i xs) ≡ map F xs → new ++ map F (drop (i + 1) xs) ≡ map F xs
   image_put F xs i x old new y inside is put made before =
@@ -56,7 +56,7 @@ chosen false n ms = refl
 own_more : (pred : PredId) (n : ℕ) (c : Call) (cs : List Call) → own_places pred n (c ∷ cs) ≡ own_places pred n (c ∷ []) ++ own_places pred (suc n) cs
 own_more pred n c cs = chosen (c.pred.0 == pred.0) n (own_places pred (suc n) cs)
 
--- what a call becomes, if it is one of the predicate, is put behind what those before it became
+-- what a call becomes, if it is one of the predicate, is put after what those before it became
 pub own_put : {Y : Type 0} (F : ℕ → Y) (pred : PredId) (calls : List Call) (i : ℕ) (call : Call) (old new all : List Y) → i < length calls → call ≡ get_or calls i call
     → new ≡ old ++ map F (own_places pred i (call ∷ [])) → old ++ map F (own_places pred i (drop i calls)) ≡ all
     → new ++ map F (own_places pred (i + 1) (drop (i + 1) calls)) ≡ all

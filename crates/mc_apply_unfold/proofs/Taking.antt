@@ -23,6 +23,7 @@ use Rattle.mc_rules_logic.specs.Unfold.RuleLaws.{RuleOfFitting}
 use Rattle.mc_rules_logic.specs.Unfold.Unfolded.{equal_atoms, new_kinds, rule_nodes}
 use Rattle.mc_rules_logic.specs.Unfold.WellMade.{EdgeOfFitting, RuleIsMade, RulesAreMade, EqualsAreFormed}
 use Rattle.mc_apply_unfold.specs.Taking.{TakesRule, TakesRuleTo, TakesRuleBack, IndTakesRules, SegTakesRules, BackTakesRules, parts}
+use Rattle.mc_rules_logic.proofs.BackLemmas.MadeWell.{have_count, have_more}
 
 -- what the proofs of this file rest on
 pub record TakingLaws : Type 0 where
@@ -66,18 +67,6 @@ module _ (kinds : Kinds) where
   have_append [] ls (n ∷ ns) ms h g = absurd h
   have_append (k ∷ ks) ls [] ms h g = absurd h
   have_append (k ∷ ks) ls (n ∷ ns) ms h g = (h.0, have_append ks ls ns ms h.1 g)
-
-  have_count : (ks : List Kind) (ns : List NodeId) → HaveKinds kinds ks ns → length ns ≡ length ks
-  have_count [] [] h = refl
-  have_count [] (n ∷ ns) h = absurd h
-  have_count (k ∷ ks) [] h = absurd h
-  have_count (k ∷ ks) (n ∷ ns) h = ap suc (have_count ks ns h.1)
-
-pub have_more : (small big : Kinds) → ((kind : Kind) (n : NodeId) → HasKind small kind n → HasKind big kind n) → (ks : List Kind) (ns : List NodeId) → HaveKinds small ks ns → HaveKinds big ks ns
-have_more small big more [] [] h = tt
-have_more small big more [] (n ∷ ns) h = absurd h
-have_more small big more (k ∷ ks) [] h = absurd h
-have_more small big more (k ∷ ks) (n ∷ ns) h = (more k n h.0, have_more small big more ks ns h.1)
 
 -- arguments of a predicate have its parameters' kinds
 pub args_of : (defs : List Def) (kinds : Kinds) (pred : PredId) (def : Def) (ns : List NodeId) → slice_get defs pred.0 ≡ Some def → ArgsFit defs kinds pred ns → HaveKinds kinds def.params ns

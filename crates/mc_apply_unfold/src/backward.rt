@@ -30,7 +30,7 @@ use mc_state::graph::Edge;
 use mc_symbolic::changes::State;
 use std::alloc::Global;
 
-/// The nodes behind the first one.
+/// The nodes after the first one.
 fn behind_first(nodes: &[NodeId]) -> &[NodeId]
     ensures { result.now ≡ drop 1 nodes.now }
 {
@@ -140,8 +140,7 @@ fn assume_call_is_end(
 {
     let args = nodes_of_names(alloc, nodes, call.args.as_slice())?;
     let start = node_of(nodes, call.at);
-    assume_equal(alloc, s, start, args.as_slice(), seg.stop, seg.ends)?;
-    Ok(())
+    assume_equal(alloc, s, start, args.as_slice(), seg.stop, seg.ends)
 }
 
 /// Adds what a segment that ends with the body of a rule becomes: a segment to that body, the body without its call at a
@@ -196,7 +195,7 @@ fn unfolded_back(
     Ok(next)
 }
 
-/// What a rule makes of a Seg for its call at a place, if it is one of the predicate, put behind other states.
+/// What a rule makes of a Seg for its call at a place, if it is one of the predicate, put after other states.
 fn put_call(
     alloc: Global,
     s: &State,
@@ -224,7 +223,7 @@ fn put_call(
     }
 }
 
-/// What a rule makes of a Seg for each of its calls, which are given, of the predicate, put behind other states.
+/// What a rule makes of a Seg for each of its calls, which are given, of the predicate, put after other states.
 fn put_calls(
     alloc: Global,
     s: &State,
@@ -246,7 +245,7 @@ fn put_calls(
     Ok(())
 }
 
-/// What a rule makes of a Seg for each of its calls of the predicate, put behind other states.
+/// What a rule makes of a Seg for each of its calls of the predicate, put after other states.
 fn put_each_call(
     alloc: Global,
     s: &State,
@@ -261,8 +260,7 @@ fn put_each_call(
         seg.now.args.now seg.now.pred seg.now.stop seg.now.ends.now rule.now)
         (own_places seg.now.pred 0 rule.now.calls)) }
 {
-    put_calls(alloc, s, edge, seg, rule, rule.calls.as_slice(), next)?;
-    Ok(())
+    put_calls(alloc, s, edge, seg, rule, rule.calls.as_slice(), next)
 }
 
 /// What a Seg becomes: nothing, or what each rule makes of it for each of its calls of the predicate.

@@ -11,14 +11,12 @@ ghost use Rattle.mc_apply_unfold.specs.Taking.{TakesRule, TakesRuleTo, parts};
 
 use crate::laws::edges_take_rules;
 use crate::opening::{Segment, add_atoms, add_body, add_body_to, emptied, opened_at};
-use mc_base::{EdgeId, NoMemory, NodeId, PredId};
+use mc_base::{EdgeId, NULL, NoMemory, NodeId, PredId};
 use mc_flow::defs::{Call, Def, Defs, Rule};
 use mc_state::LogicFault;
 use mc_state::graph::Edge;
 use mc_symbolic::changes::State;
 use std::alloc::Global;
-
-const NULL: NodeId = NodeId(0);
 
 /// Whether an edge at the node may be unfolded: the node is null, or the accessed one.
 fn may_unfold(s: &State, access: Option<NodeId>, at: NodeId) -> bool
@@ -106,7 +104,7 @@ fn by_each_rule(
     Ok(next)
 }
 
-/// What a rule makes of a Seg for its call at a place, if it is one of the predicate, put behind other states.
+/// What a rule makes of a Seg for its call at a place, if it is one of the predicate, put after other states.
 fn put_call(
     alloc: Global,
     s: &State,
@@ -130,7 +128,7 @@ fn put_call(
     }
 }
 
-/// What a rule makes of a Seg for each of some calls of the predicate, put behind other states.
+/// What a rule makes of a Seg for each of some calls of the predicate, put after other states.
 fn put_calls(
     alloc: Global,
     s: &State,
@@ -150,7 +148,7 @@ fn put_calls(
     Ok(())
 }
 
-/// What a rule makes of a Seg for each of its calls of the predicate, put behind other states.
+/// What a rule makes of a Seg for each of its calls of the predicate, put after other states.
 fn put_each_call(
     alloc: Global,
     s: &State,
@@ -163,8 +161,7 @@ fn put_each_call(
     ensures { OnOk result (next.new.items ≡ next.old.items ++ map (unfolded_at s.now edge seg.now.at
         seg.now.args.now seg.now.stop seg.now.ends.now rule.now) (own_places seg.now.pred 0 rule.now.calls)) }
 {
-    put_calls(alloc, s, edge, seg, rule, rule.calls.as_slice(), next)?;
-    Ok(())
+    put_calls(alloc, s, edge, seg, rule, rule.calls.as_slice(), next)
 }
 
 /// What a Seg becomes: nothing, or what each rule makes of it for each of its calls of the predicate.

@@ -164,7 +164,7 @@ pub fn call_at(calls: &[Call], place: usize) -> Option<&Call>
     calls.get(place)
 }
 
-/// The calls behind the one at a place.
+/// The calls after the one at a place.
 pub fn calls_behind(calls: &[Call], place: usize) -> &[Call]
     requires { place < length calls.now }
     ensures { result.now ≡ drop (place + 1) calls.now }
@@ -210,8 +210,7 @@ pub fn add_body(alloc: Global, s: &mut State, nodes: &[NodeId], rule: &Rule) -> 
         rule.now.calls)) }
 {
     add_block(alloc, s, nodes, rule)?;
-    add_calls(alloc, s, nodes, rule.calls.as_slice())?;
-    Ok(())
+    add_calls(alloc, s, nodes, rule.calls.as_slice())
 }
 
 /// Adds the body of a rule, where the call at a place goes on as a segment to an end. Without memory the state is lost.
@@ -231,8 +230,7 @@ pub fn add_body_to(
         rule.now.contents rule.now.calls)) }
 {
     add_block(alloc, s, nodes, rule)?;
-    add_calls_to(alloc, s, nodes, end, ends, place, rule.calls.as_slice())?;
-    Ok(())
+    add_calls_to(alloc, s, nodes, end, ends, place, rule.calls.as_slice())
 }
 
 /// Writes the atoms of a rule. Without memory the state is lost.
@@ -246,11 +244,10 @@ pub fn add_atoms(
     ensures { OnOk result (s.new ≡ with_atoms s.old (map (atom_of nodes.now) rule.now.atoms)) }
 {
     let instance = instantiate(alloc, rule, nodes)?;
-    assume_all(s, instance.atoms.as_slice())?;
-    Ok(())
+    assume_all(s, instance.atoms.as_slice())
 }
 
-/// Opens an edge in a copy of a state: new nodes of some kinds, which are put behind those that are given, and the edge
+/// Opens an edge in a copy of a state: new nodes of some kinds, which are put after those that are given, and the edge
 /// is gone.
 pub fn opened(
     alloc: Global,
@@ -286,11 +283,10 @@ pub fn opened_at(
 {
     nodes.push(at)?;
     nodes.extend_from_slice(args)?;
-    let next = opened(alloc, s, edge, new_kinds(args, rule), nodes)?;
-    Ok(next)
+    opened(alloc, s, edge, new_kinds(args, rule), nodes)
 }
 
-/// The kinds of the names behind `this` and the arguments.
+/// The kinds of the names after `this` and the arguments.
 pub fn new_kinds<'a>(args: &[NodeId], rule: &'a Rule) -> &'a [Kind]
     ensures { result.now ≡ new_kinds args.now rule.now }
 {
@@ -300,7 +296,7 @@ pub fn new_kinds<'a>(args: &[NodeId], rule: &'a Rule) -> &'a [Kind]
     }
 }
 
-/// A node is equal to the one at a place of a list, if there is one, put behind other atoms.
+/// A node is equal to the one at a place of a list, if there is one, put after other atoms.
 fn put_equal_at(
     a: NodeId,
     right: &[NodeId],
@@ -318,7 +314,7 @@ fn put_equal_at(
     }
 }
 
-/// The nodes of two lists are equal, one by one, put behind other atoms.
+/// The nodes of two lists are equal, one by one, put after other atoms.
 fn put_equal(left: &[NodeId], right: &[NodeId], atoms: &mut Vec<Atom>) -> Result<(), NoMemory>
     ensures { OnOk result (atoms.new.items ≡ atoms.old.items ++ equal_atoms left.now right.now) }
 {
@@ -358,8 +354,7 @@ pub fn assume_equal(
     ensures { OnOk result (s.new ≡ with_atoms s.old (equal_atoms (at ∷ args.now) (stop ∷ ends.now))) }
 {
     let atoms = equal_atoms(alloc, at, args, stop, ends)?;
-    assume_all(s, atoms.as_slice())?;
-    Ok(())
+    assume_all(s, atoms.as_slice())
 }
 
 /// A copy of a state without an edge.

@@ -1,2 +1,3 @@
 pub mod RangesLemmas
 pub mod TextLemmas
+pub mod Work

@@ -23,3 +23,6 @@ pub struct StructId(pub u64);
 /// A predicate of a definition file, numbered from 0 in the order of the text.
 #[derive(Clone, Copy, Debug, Default, PartialEq, Eq, PartialOrd, Ord)]
 pub struct PredId(pub u64);
+
+/// The node that is null and zero.
+pub const NULL: NodeId = NodeId(0);

@@ -117,7 +117,7 @@ pub struct Args<T> {
     items: SmallVec<T, 4>,
 }
 
-/// Lets go of the items. What holds such a list calls this.
+/// Drops the items. What holds such a list calls this.
 impl<T: Drop> Drop for Args<T> {
     fn drop(self) {
         let Args { items } = self;

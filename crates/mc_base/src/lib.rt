@@ -1,5 +1,5 @@
 //! What every other crate speaks of: numbers with types, kinds and atoms, short lists; in modules of their own texts
-//! and places, stacks, and ranges of whole numbers.
+//! and places, stacks, ranges of whole numbers, and trees that are dropped in a loop.
 //!
 //! Stands on nothing of this repository; called by every crate but `mc_outside`.
 #![tactic(auto)]
@@ -10,7 +10,8 @@ mod plain;
 pub mod ranges;
 pub mod stack;
 pub mod text;
+pub mod trees;
 
-pub use ids::{EdgeId, NodeId, PointId, PredId, StructId, VarId};
+pub use ids::{EdgeId, NULL, NodeId, PointId, PredId, StructId, VarId};
 pub use items::{Args, Items};
 pub use plain::{Atom, FaultKind, Kind, NoMemory, VarInfo};

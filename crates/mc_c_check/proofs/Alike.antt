@@ -95,7 +95,7 @@ left_out t seen others x fs named repeat =
     ∙ any_kept (λ g. is_other t h (tree_of g)) (λ f. is_same f.now.name.text x.now.name.text) seen
     (subst (λ gs. list_any (λ g. is_other t h (tree_of g)) gs ≡ true) named (sym (any_mapped (is_other t h) tree_of others) ∙ repeat h other)))))
 
--- ---- what is told already
+-- ---- what is known already
 behind_step : (told fault : Fault) (b : Bool) → is_told told fault ≡ true → told_of (Some told) [] ≡ told_of (Some told) (unless b fault.name fault.place)
 behind_step told fault true e = refl
 behind_step told fault false e = rw e refl

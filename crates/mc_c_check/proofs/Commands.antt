@@ -83,7 +83,7 @@ misfits unit items t defs o a p q r h =
     ∙ ap (λ i. told_of None (flat_map (λ item. flat_map (use_faults defs) (item_uses (tables_of unit) item)) i)) q
     ∙ sym (ap (told_of None) (flat_twice (use_faults defs) (item_uses (tables_of unit)) unit))
 
--- none is told only where there is none
+-- none is known only where there is none
 some_told : (told : Fault) (xs : List Fault) → None ≡ told_of (Some told) xs → ⊥
 some_told told [] e = none-some told e
 some_told told (x ∷ xs) e = some_told (cond (is_told told x) told x) xs e

@@ -1,4 +1,4 @@
--- What is told of all faults.
+-- What is known of all faults.
 use Rattle.std.proofs.Common.{◌≡◌, ℕ, List, [], ◌∷◌, ◌++◌, ◌+◌, ◌<◌, refl, sym, ap, ◌∙◌, inl, inr, map, flat_map, take, get_or, length, Bool, true, false, Bor}
 use Rattle.std.proofs.lemmas.Option.{none-some, same_Some}
 use Rattle.std.proofs.lemmas.List.{take_more}
@@ -17,12 +17,13 @@ use Rattle.mc_c_types.specs.declared.faults.Fault.{Fault}
 use Rattle.mc_c_check.specs.declared.graph.Edge.{Edge}
 use Rattle.mc_c_check.specs.Graphs.{edge_of, fault_at, Leads}
 use Rattle.mc_c_check.specs.Told.{IsBehind, IsFirstBroken, IsToldOfRules, IsToldWith}
-use Rattle.mc_c_check.proofs.Members.{contains_here, contains_later, contains_cases, contains_none, contains_front, contains_back, contains_either, get_same}
+use Rattle.mc_c_check.proofs.Members.{contains_cases, contains_front, contains_back, contains_either, get_same}
 use Rattle.mc_c_check.proofs.Orders.{is_told-refl, is_told-total, is_told-trans, least_of}
 use Rattle.mc_c_check.proofs.Repeats.{any_mapped, tree_of}
 use Rattle.mc_c_check.proofs.Recursions.{callers_known, loop_recursion, recursion_loop}
+use Rattle.mc_c_types.proofs.Orders.{contains_here, contains_later, contains_none}
 
--- ---- what is told of plain faults
+-- ---- what is known of plain faults
 pub record Plain (faults : List Fault) (told : Option Fault) : Type 0 where
   pub among : (f : Fault) → told ≡ Some f → Contains faults f
   pub behind : (f : Fault) → Contains faults f → IsBehind told f
@@ -58,7 +59,7 @@ told_skipped edges x told skipped =
       first = λ f l. elim (contains_cases l.edge x [] l.made) [ inl p ↦ rw l.told (rw p (skipped (rw p at l.returns))) | inr p ↦ absurd (contains_none l.edge p) ];
     }
 
--- a fault that stands before what is told stands before all that is behind that
+-- a fault that stands before what is known stands before all that is after that
 stands_before : (told : Option Fault) (x f : Fault) → (IsBehind told x → ⊥) → IsBehind told f → IsTrue (is_told x f)
 stands_before None x f new h = absurd h
 stands_before (Some g) x f new h = is_told-trans x g f (is_told-total g x (no_test (is_told g x) new)) h where
@@ -66,7 +67,7 @@ stands_before (Some g) x f new h = is_told-trans x g f (is_told-total g x (no_te
   no_test true never = absurd (never refl)
   no_test false never = refl
 
--- a call whose fault is told from then on
+-- a call whose fault is known from then on
 pub told_replaced : (edges : List Edge) (x : Edge) (told : Option Fault) → Leads edges x.callee x.caller → (IsBehind told (fault_at x) → ⊥) → IsToldWith edges (x ∷ []) told (Some (fault_at x))
 told_replaced edges x told returns new =
     record {

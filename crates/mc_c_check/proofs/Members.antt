@@ -1,19 +1,11 @@
 -- Members of lists.
 use Rattle.std.proofs.Common.{◌≡◌, ℕ, List, [], ◌∷◌, ◌++◌, ◌<◌, ◌⊎◌, refl, sym, arith, inl, inr, suc, zero, map, length, get_or}
 use Rattle.std.specs.Prelude.{Contains}
-
-pub contains_here : {X : Type 0} (x : X) (xs : List X) → Contains (x ∷ xs) x
-contains_here x xs = (0, omega arith, refl)
-
-pub contains_later : {X : Type 0} (x y : X) (xs : List X) → Contains xs x → Contains (y ∷ xs) x
-contains_later x y xs h = (suc h.0, (let below = h.1 in omega arith), h.2)
+use Rattle.mc_c_types.proofs.Orders.{contains_here, contains_later, contains_none}
 
 pub contains_cases : {X : Type 0} (x y : X) (xs : List X) → Contains (y ∷ xs) x → (x ≡ y) ⊎ Contains xs x
 contains_cases x y xs (zero, below, is) = inl (sym is)
 contains_cases x y xs (suc k, below, is) = inr (k, omega arith, is)
-
-pub contains_none : {X : Type 0} (x : X) → Contains [] x → ⊥
-contains_none x h = omega (arith, h.1)
 
 pub contains_front : {X : Type 0} (x : X) (xs ys : List X) → Contains xs x → Contains (xs ++ ys) x
 contains_front x [] ys h = absurd (contains_none x h)

@@ -1,11 +1,12 @@
--- Which of two faults is told.
+-- Which of two faults is known.
 use Rattle.std.proofs.Common.{◌≡◌, ℕ, List, [], ◌∷◌, ◌<◌, ◌≤◌, refl, arith, Bool, true, false, ◌⊎◌}
 use Rattle.std.proofs.Common.{inl, inr}
 use Rattle.std.specs.Prelude.{Contains, Some, cond, nat_lt, nat_le, ◌==◌, ◌&&◌, ◌||◌}
 use Rattle.mc_c_types.specs.declared.faults.Fault.{Fault}
 use Rattle.mc_c_types.specs.declared.faults.FaultName.{FaultName}
 use Rattle.mc_c_types.specs.First.{is_told, number_of, told_of}
-use Rattle.mc_c_check.proofs.Members.{contains_cases, contains_here, contains_later, contains_none}
+use Rattle.mc_c_check.proofs.Members.{contains_cases}
+use Rattle.mc_c_types.proofs.Orders.{contains_here, contains_later, contains_none}
 
 -- the names have different numbers
 pub number_of-injective : (a b : FaultName) → number_of a ≡ number_of b → a ≡ b
@@ -86,7 +87,7 @@ is_told-antisym f g p q =
     (tell-says _ _ _ _ _ _ p)
     (tell-says _ _ _ _ _ _ q))
 
--- ---- the one that is told of one and these
+-- ---- the one that is known of one and these
 pub record IsLeast (told : Fault) (faults : List Fault) (f : Fault) : Type 0 where
   pub is_one : (f ≡ told) ⊎ Contains faults f
   pub before_it : is_told f told ≡ true
@@ -107,7 +108,7 @@ told-step told x f xs false e h =
       before_all = λ g c. elim (contains_cases g x xs c) [ inl p ↦ rw p h.before_it | inr p ↦ h.before_all g p ];
     }
 
--- the fault that is told of one and these
+-- the fault that is known of one and these
 pub record Least (told : Fault) (faults : List Fault) : Type 0 where
   pub fault : Fault
   pub is_told : told_of (Some told) faults ≡ Some fault

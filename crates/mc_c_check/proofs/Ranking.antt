@@ -7,7 +7,8 @@ use Rattle.mc_c_syntax.specs.Ast.Trees.{UnitTree}
 use Rattle.mc_c_types.specs.Calls.{CallSite, Reaches, itself, through, call_sites}
 use Rattle.mc_c_types.specs.Typing.{IsWellTyped, recursion_at}
 use Rattle.mc_c_check.specs.Ranks.{AreRanks, HasRanks}
-use Rattle.mc_c_check.proofs.Members.{contains_here, contains_later, contains_cases, contains_none}
+use Rattle.mc_c_check.proofs.Members.{contains_cases}
+use Rattle.mc_c_types.proofs.Orders.{contains_here, contains_later, contains_none}
 
 -- ---- whether a function is reached
 abbrev Decides : List CallSite → List ℕ → List ℕ → Type 0
@@ -22,7 +23,7 @@ module _ (sites : List CallSite) (rank : List ℕ → ℕ) (ranks : AreRanks sit
   refuted x other none itself = (let same : is_same goal goal ≡ true = (bytes_decides goal goal).1 refl in cc)
   refuted x other none (through site made more) = none site made refl more
 
-  -- behind the first of some calls
+  -- after the first of some calls
   behind_first : (some : List CallSite) (site : CallSite) (x : List ℕ) → LeadsNowhere sites some goal x → (site.caller ≡ x → Reaches sites site.callee.text goal → ⊥) → LeadsNowhere sites (site ∷ some) goal x
   behind_first some site x none first other made e reaches =
       elim (contains_cases other site some made) [

@@ -13,7 +13,7 @@ pub drop_at : {X : Type 0} (xs : List X) (i : ℕ) (x : X) → i < length xs →
 drop_at xs i x below is =
     let next : suc i ≡ i + 1 = omega arith in rw (sym next) (let head = drop-cons xs i x below in cc)
 
--- ---- what is told
+-- ---- what is known
 pub told_append : (told : Option Fault) (xs ys : List Fault) → told_of told (xs ++ ys) ≡ told_of (told_of told xs) ys
 told_append told [] ys = refl
 told_append None (x ∷ xs) ys = told_append (Some x) xs ys

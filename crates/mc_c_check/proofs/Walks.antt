@@ -14,7 +14,7 @@ some_case P Q o x e h = subst (λ o. MatchOption o P Q) e h
 pub none_case : {X : Type 0} (P : Type 0) (Q : X → Type 0) (o : Option X) → o ≡ None → MatchOption o P Q → P
 none_case P Q o e h = subst (λ o. MatchOption o P Q) e h
 
--- behind the last part
+-- after the last part
 pub all_visited : (f : Visit → List Fault) (o a : Option Fault) (left visits whole : List Visit)
     → told_of a (flat_map f left) ≡ told_of o (flat_map f visits) → left ≡ [] → visits ≡ whole → a ≡ told_of o (flat_map f whole)
 all_visited f o a left visits whole told none all = ap (λ vs. told_of a (flat_map f vs)) (sym none) ∙ told ∙ ap (λ vs. told_of o (flat_map f vs)) all

@@ -12,7 +12,7 @@ abbrev pub at_most_one : {X : Type 0} → Option X → List X
 at_most_one None = []
 at_most_one (Some x) = x ∷ []
 
--- what is behind references
+-- what is after references
 abbrev pub names_held : List (Bor Name) → List Name
 names_held names = map (λ n. n.now) names
 

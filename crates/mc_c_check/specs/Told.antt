@@ -1,4 +1,4 @@
--- What is told of the faults of a program.
+-- What is known of the faults of a program.
 use Rattle.std.specs.Prelude.{◌≡◌, ◌⊎◌, IsTrue, List, Option, Some, None, ℕ}
 use Rattle.mc_c_syntax.specs.Ast.Trees.{UnitTree}
 use Rattle.mc_c_types.specs.declared.faults.Fault.{Fault}
@@ -7,18 +7,18 @@ use Rattle.mc_c_types.specs.Typing.{Breaks, IsWellTyped, IsFirstFault}
 use Rattle.mc_c_check.specs.Graphs.{IsLoop}
 use Rattle.mc_c_check.specs.declared.graph.Edge.{Edge}
 
--- what is told is told rather than the fault
+-- what is known is known rather than the fault
 abbrev pub IsBehind : Option Fault → Fault → Type 0
 IsBehind None fault = ⊥
 IsBehind (Some told) fault = IsTrue (is_told told fault)
 
--- behind what was told before, what is told now is the first of that and of the faults of these calls
+-- after what was told before, what is known now is the first of that and of the faults of these calls
 pub record IsToldWith (edges some : List Edge) (before after : Option Fault) : Type 0 where
   pub among : (f : Fault) → after ≡ Some f → (before ≡ Some f) ⊎ IsLoop edges some f
   pub kept : (f : Fault) → before ≡ Some f → IsBehind after f
   pub first : (f : Fault) → IsLoop edges some f → IsBehind after f
 
--- a program has no broken rule, or the first one is told
+-- a program has no broken rule, or the first one is known
 pub record IsFirstBroken (unit : UnitTree) (fault : Fault) : Type 0 where
   pub broken : Breaks unit fault
   pub first : (other : Fault) → Breaks unit other → IsTrue (is_told fault other)

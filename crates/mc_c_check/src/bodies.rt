@@ -86,21 +86,11 @@ fn check_part<'a>(
         }
         Part::Valued(base, declarator, value) => {
             let wanted = tables.declared(base, declarator.pointer);
-            sight.check_first_value(alloc, told, wanted, value)?;
-            Ok(())
+            sight.check_first_value(alloc, told, wanted, value)
         }
-        Part::Performed(simple) => {
-            sight.check_simple(alloc, told, simple)?;
-            Ok(())
-        }
-        Part::Freed(pointer) => {
-            check_freed(alloc, told, sight, pointer)?;
-            Ok(())
-        }
-        Part::Tested(condition) => {
-            sight.check_condition(alloc, told, condition)?;
-            Ok(())
-        }
+        Part::Performed(simple) => sight.check_simple(alloc, told, simple),
+        Part::Freed(pointer) => check_freed(alloc, told, sight, pointer),
+        Part::Tested(condition) => sight.check_condition(alloc, told, condition),
         Part::Assumed(shape) => {
             sight.check_variable(told, &shape.variable);
             check_arguments(told, sight, shape.arguments.as_slice());
@@ -115,10 +105,7 @@ fn check_part<'a>(
             told.unless(in_loop, FaultName::Mismatch, place);
             Ok(())
         }
-        Part::Returning(place, value) => {
-            sight.check_return(alloc, told, returned, place, value)?;
-            Ok(())
-        }
+        Part::Returning(place, value) => sight.check_return(alloc, told, returned, place, value),
     }
 }
 

@@ -139,8 +139,7 @@ fn add_item<'a>(
         Item::Function(function) => {
             visits_give_calls();
             let callees = body_calls(alloc, tables, function)?;
-            add_calls(edges, tables, &function.name.text, callees.as_slice())?;
-            Ok(())
+            add_calls(edges, tables, &function.name.text, callees.as_slice())
         }
     }
 }

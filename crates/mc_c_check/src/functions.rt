@@ -77,18 +77,9 @@ fn check_item<'a>(
     ensures { OnOk result (told.new.fault ≡ told_of told.old.fault (item_tree_faults (tables_held tables.now) (item_of item.now))) }
 {
     match item {
-        Item::Struct(tree) => {
-            check_struct(alloc, told, tables, tree)?;
-            Ok(())
-        }
-        Item::Typedef(typedef) => {
-            check_typedef(alloc, told, tables, typedef)?;
-            Ok(())
-        }
-        Item::Function(function) => {
-            check_function(alloc, told, tables, function)?;
-            Ok(())
-        }
+        Item::Struct(tree) => check_struct(alloc, told, tables, tree),
+        Item::Typedef(typedef) => check_typedef(alloc, told, tables, typedef),
+        Item::Function(function) => check_function(alloc, told, tables, function),
     }
 }
 

@@ -25,7 +25,7 @@ pub struct Links {
     firsts: Vec<usize>,
 }
 
-/// Lets go of its parts. What holds one calls this.
+/// Drops its parts. What holds one calls this.
 impl Drop for Links {
     fn drop(self) {
         let Links { nexts, firsts } = self;

@@ -13,7 +13,7 @@ use mc_c_syntax::ast::Item;
 use mc_c_types::{Fault, FaultName, FirstFault, NameTables};
 use std::alloc::{AllocError, Global};
 
-/// Whether a fault that is told already is told rather than this one.
+/// Whether a fault that is known already is known rather than this one.
 pub fn is_behind(told: &FirstFault, fault: Fault) -> bool
     ensures { IsTrue result ↔ IsBehind told.now.fault fault }
 {

@@ -209,10 +209,7 @@ fn check_item<'a>(
     match item {
         Item::Struct(_) => Ok(()),
         Item::Typedef(_) => Ok(()),
-        Item::Function(function) => {
-            check_function(alloc, told, tables, defs, function)?;
-            Ok(())
-        }
+        Item::Function(function) => check_function(alloc, told, tables, defs, function),
     }
 }
 

@@ -114,10 +114,7 @@ fn check_aliased(
 {
     match aliased {
         Aliased::Base(_) => Ok(()),
-        Aliased::Struct(tree) => {
-            check_struct(alloc, told, tables, tree)?;
-            Ok(())
-        }
+        Aliased::Struct(tree) => check_struct(alloc, told, tables, tree),
     }
 }
 

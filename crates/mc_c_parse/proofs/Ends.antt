@@ -269,6 +269,6 @@ none_behind (token ∷ []) ends here = refl
 none_behind (token ∷ []) ends (past other c) = absurd (other ends)
 none_behind (token ∷ second ∷ tokens) ends (past other c) = none_behind (second ∷ tokens) ends.1 c
 
--- behind a whole text a program has no tokens
+-- after a whole text a program has no tokens
 pub nothing_behind : {aliases : List (List ℕ)} {is all : List ItemTree} (tokens : Tokens) (behind : Tokens) → EndsOnce tokens → MoreItems aliases is (tokens ++ behind) all → behind ≡ []
 nothing_behind tokens behind ends items = none_behind tokens ends (clear_items items).1

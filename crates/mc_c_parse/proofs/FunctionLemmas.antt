@@ -33,7 +33,7 @@ body_of_bodies (in_turn listed (next is ended)) = (_, listed, is)
 pub bodies_of_body : {aliases : List (List ℕ)} {tokens rest : Tokens} {ss : List Stmt} → IsBodyOf aliases tokens rest ss → Bodies aliases tokens rest ss
 bodies_of_body (after, listed, is) = in_turn listed (next is ended)
 
--- a function behind `static`, if it has one
+-- a function after `static`, if it has one
 abbrev pub FunctionBehind : List (List ℕ) → Option Place → Tokens → Tokens → FunctionTree → Type 0
 FunctionBehind aliases place = Then (IsHeader aliases) (λ header. BehindHeader aliases place header)
 
@@ -53,7 +53,7 @@ ends w (body v ss k) = grind arith
 pub body_semicolon : (aliases : List (List ℕ)) {token : Token} → IsMark (codes ";") token → Closes (λ tokens rest (b : Option BodyTree). IsBody aliases b tokens rest) token None
 body_semicolon aliases w = record { forward = λ tokens rest b n. ends w n; backward = λ tokens. prototype w }
 
--- within a body behind the `{` at this place
+-- within a body after the `{` at this place
 abbrev pub Within : List (List ℕ) → {X : Type 0} → (Option BodyTree → X) → Place → Tokens → Tokens → X → Type 0
 Within aliases function place = Then (IsBodyOf aliases) (λ ss. Gives (function (Some (record { place = place; statements = ss }))))
 

@@ -25,7 +25,7 @@ use Rattle.mc_c_parse.proofs.Marks.{only_struct, only_typedef, only_static, only
 use Rattle.mc_c_parse.proofs.Bases.{no_base, static_no_base, typedef_no_base, behind_int, behind_alias}
 use Rattle.mc_c_parse.proofs.FunctionLemmas.{FunctionBehind, function_splits, function_joins}
 
--- what is read behind `struct`
+-- what is read after `struct`
 behind_tag : {X : Type 0} {after_tag : Name → Tokens → Tokens → X → Type 0} {token : Token} {tokens rest : Tokens} {x : X} → IsTagOf after_tag (token ∷ tokens) rest x → after_tag (name_of token) tokens rest x
 behind_tag (tag_of n t) = t
 
@@ -38,7 +38,7 @@ no_tag class c not_name (tag_of n t) = not_name (only_name class c n)
 pub tag_stuck : {X : Type 0} (after_tag : Name → Tokens → Tokens → X → Type 0) {token : Token} (class : Class) → IsClass token class → (class ≡ Class.Name → ⊥) → IsStuckAt (IsTagOf after_tag) token
 tag_stuck after_tag class c not_name = λ tokens rest x n. no_tag class c not_name n
 
--- the fields of a struct and what goes on behind them
+-- the fields of a struct and what goes on after them
 abbrev pub Within : List (List ℕ) → Place → Name → {X : Type 0} → (StructTree → Tokens → Tokens → X → Type 0) → Tokens → Tokens → X → Type 0
 Within aliases place name goes_on = Then (Then (FieldsFrom aliases [] None) (λ fs. Gives (record { place = place; name = name; fields = fs }))) goes_on
 
@@ -94,7 +94,7 @@ from_tag w (tag_of n (without_fields e)) = (_, _, base_aliased (tagged w n), e)
 pub typedef_struct : (aliases : List (List ℕ)) (word : Place) {token : Token} → IsWord (codes "struct") token → Takes [] (Then (λ tokens rest a. IsAliased aliases a tokens rest) (λ a. EndsTypedef word a)) (IsTagOf (λ name. TaggedTypedef aliases word token.place name)) token
 typedef_struct aliases word w = record { forward = λ tokens rest t n. inl (aliased_struct w n.2 n.3); backward = λ tokens rest t n. from_tag w n }
 
--- a `;` behind a struct
+-- a `;` after a struct
 ends_struct : {s : StructTree} {token : Token} {tokens rest : Tokens} {i : ItemTree} → IsStructEnd s (token ∷ tokens) rest i → (rest ≡ tokens) × (i ≡ structure s)
 ends_struct (struct_end k) = (refl, refl)
 
@@ -133,7 +133,7 @@ item_struct_out w (tag_of n (without_fields (f, mid, (h, behind, head, more), e)
 pub item_struct : (aliases : List (List ℕ)) {token : Token} → IsWord (codes "struct") token → Takes [] (λ tokens rest (i : ItemTree). IsItem aliases i tokens rest) (IsTagOf (λ name. TaggedItem aliases token.place name)) token
 item_struct aliases w = record { forward = λ tokens rest i n. inl (item_struct_in w n); backward = λ tokens rest i n. item_struct_out w n }
 
--- behind the word `typedef`
+-- after the word `typedef`
 abbrev pub TypedefItem : List (List ℕ) → Place → Tokens → Tokens → ItemTree → Type 0
 TypedefItem aliases place = Then (Then (λ tokens rest a. IsAliased aliases a tokens rest) (λ a. EndsTypedef place a)) (λ t. Gives (typedef t))
 
@@ -153,7 +153,7 @@ item_typedef_out w (t, mid, (a, behind, aliased, (ds, end, (d, last, one, (semic
 pub item_typedef : (aliases : List (List ℕ)) {token : Token} → IsWord (codes "typedef") token → Takes [] (λ tokens rest (i : ItemTree). IsItem aliases i tokens rest) (TypedefItem aliases token.place) token
 item_typedef aliases w = record { forward = λ tokens rest i n. inl (item_typedef_in w n); backward = λ tokens rest i n. item_typedef_out w n }
 
--- behind the word `static`
+-- after the word `static`
 static_function : (aliases : List (List ℕ)) {place : Option Place} {f : FunctionTree} {token : Token} {tokens mid rest : Tokens} → IsWord (codes "static") token → IsStatic place (token ∷ tokens) mid → FunctionBehind aliases place mid rest f → FunctionItem aliases (Some token.place) tokens rest (function f)
 static_function aliases w (static_place v) b = (_, _, b, (refl, refl))
 static_function aliases w not_static (h, behind, is_header (gives_nothing v) n k, more) = grind arith

@@ -20,7 +20,7 @@ use Rattle.mc_c_parse.proofs.Threads.{SameAt}
 use Rattle.mc_c_parse.proofs.Marks.{only_close_paren, only_comma, only_void}
 use Rattle.mc_c_parse.proofs.Bases.{mark_no_base, void_no_base}
 
--- within a parameter behind these
+-- within a parameter after these
 abbrev pub NextParameter : List (List ℕ) → List Parameter → Tokens → Tokens → ParametersTree → Type 0
 NextParameter aliases ps = Then (CompletesParameter aliases (ParameterReader.Base BaseReader.Start)) (λ p. EndsParameters aliases (ps ++ p ∷ []))
 

@@ -17,7 +17,7 @@ use Rattle.mc_c_parse.specs.Faults.{CanBegin, StopsAt, IsOnlyUnit, IsFaultAt, Is
 use Rattle.mc_c_parse.proofs.Ends.{nothing_behind}
 use Rattle.mc_c_parse.proofs.Viable.{CanFinish}
 
--- what completes the reader is what a program has behind these tokens
+-- what completes the reader is what a program has after these tokens
 pub record Behind (before : Tokens) (now : Tokens → UnitTree → Type 0) : Type 0 where
   pub forward : (more : Tokens) (all : UnitTree) → IsUnit all (before ++ more) → now more all
   pub backward : (more : Tokens) (all : UnitTree) → now more all → IsUnit all (before ++ more)
@@ -75,7 +75,7 @@ only_unit tokens i token unit ends below is b done =
       only = λ other u. (done.forward [] other (b.forward (token ∷ []) other (subst (λ ts. IsUnit other ts) (sym whole) u))).1;
     }
 
--- a reader behind the whole text can't be completed
+-- a reader after the whole text can't be completed
 pub never : {now : Tokens → UnitTree → Type 0} (tokens : Tokens) (i : ℕ) → EndsOnce tokens → length tokens ≤ i → Behind (take i tokens) now → CanFinish now → ⊥
 never tokens i ends above b f =
     let u = b.backward f.more f.tree f.completes in

@@ -9,7 +9,7 @@ use Rattle.mc_c_parse.specs.declared.step.Step.{Step}
 use Rattle.mc_c_parse.specs.declared.base.BaseReader.{BaseReader}
 use Rattle.mc_c_parse.specs.Threads.{StepIs}
 
--- a struct's name, behind the word `struct` at this place
+-- a struct's name, after the word `struct` at this place
 pub data IsTag (place : Place) : Tokens → Tokens → Base → Type 0 where
   tag : {name : Token} {rest : Tokens} → IsName name → IsTag place (name ∷ rest) rest (Base.Struct place (name_of name))
 

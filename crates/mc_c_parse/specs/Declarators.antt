@@ -11,7 +11,7 @@ use Rattle.mc_c_parse.specs.declared.declarator.DeclaratorReader.{DeclaratorRead
 use Rattle.mc_c_parse.specs.declared.declarators.DeclaratorsReader.{DeclaratorsReader}
 use Rattle.mc_c_parse.specs.Threads.{Then, StepIs}
 
--- a declarator's name, behind the `*` at this place
+-- a declarator's name, after the `*` at this place
 pub data IsPointed (place : Place) : Tokens → Tokens → Declarator → Type 0 where
   pointed : {name : Token} {rest : Tokens} → IsName name
       → IsPointed place (name ∷ rest) rest (record { pointer = Some place; name = name_of name })
@@ -21,11 +21,11 @@ abbrev pub CompletesDeclarator : DeclaratorReader → Tokens → Tokens → Decl
 CompletesDeclarator DeclaratorReader.Start tokens rest d = IsDeclarator d tokens rest
 CompletesDeclarator (DeclaratorReader.Star place) tokens rest d = IsPointed place tokens rest d
 
--- behind these declarators: more of them, and a `;`
+-- after these declarators: more of them, and a `;`
 abbrev pub EndsDeclarators : List Declarator → Tokens → Tokens → List Declarator → Type 0
 EndsDeclarators ds tokens rest all = (semicolon : Token) × MoreDeclarators ds tokens all (semicolon ∷ rest) × IsMark (codes ";") semicolon
 
--- behind these declarators, and what has been read of another one
+-- after these declarators, and what has been read of another one
 abbrev pub DeclaratorsFrom : List Declarator → Option DeclaratorReader → Tokens → Tokens → List Declarator → Type 0
 DeclaratorsFrom ds None = EndsDeclarators ds
 DeclaratorsFrom ds (Some reader) = Then (CompletesDeclarator reader) (λ d. EndsDeclarators (ds ++ d ∷ []))

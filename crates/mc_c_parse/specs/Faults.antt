@@ -14,7 +14,7 @@ pub record CanBegin (tokens : Tokens) : Type 0 where
   pub unit : UnitTree
   pub spells : IsUnit unit (tokens ++ more)
 
--- the tokens go on with this one behind those that some program begins with, and no program does
+-- the tokens go on with this one after those that some program begins with, and no program does
 pub record StopsAt (tokens before : Tokens) (token : Token) : Type 0 where
   pub after : Tokens
   pub split : tokens ≡ before ++ token ∷ after
@@ -53,18 +53,18 @@ pub record EndsWithName (before : Tokens) : Type 0 where
   pub split : before ≡ first ++ name ∷ []
   pub is_name : IsName name
 
--- a call within an expression: `(` behind a name, where `+` or `&&` could stand
+-- a call within an expression: `(` after a name, where `+` or `&&` could stand
 pub record IsInnerCall (before : Tokens) (token : Token) : Type 0 where
   pub mark : IsMark (codes "(") token
   pub behind : EndsWithName before
   pub within : CanStand before (codes "+") token ⊎ CanStand before (codes "&&") token
 
--- a name could stand in the place of a `*`, with a `,` or a `(` in that of the token behind it
+-- a name could stand in the place of a `*`, with a `,` or a `(` in that of the token after it
 abbrev pub DeclaresBehind : Tokens → Token → Token → Type 0
 DeclaresBehind first star token = CanBegin (first ++ as_name star ∷ as_mark (codes ",") token ∷ [])
     ⊎ CanBegin (first ++ as_name star ∷ as_mark (codes "(") token ∷ [])
 
--- a pointer to a pointer: `*` behind the `*` of a declarator or a result, where a name could stand with a `,` or a `(` behind it
+-- a pointer to a pointer: `*` after the `*` of a declarator or a result, where a name could stand with a `,` or a `(` after it
 pub record IsInnerPointer (before : Tokens) (token : Token) : Type 0 where
   pub mark : IsMark (codes "*") token
   pub first : Tokens
@@ -78,7 +78,7 @@ abbrev pub IsOutside : Tokens → Token → Type 0
 IsOutside before token = (CanStand before (codes "(") token × (CanStand before (codes "=") token → ⊥))
     ⊎ (CanStand before (codes ",") token × CanStand before (codes ";") token)
 
--- a variable outside every function, or a value of one: `;`, `=` or `,` behind a name that is no expression
+-- a variable outside every function, or a value of one: `;`, `=` or `,` after a name that is no expression
 pub record IsOuterVariable (before : Tokens) (token : Token) : Type 0 where
   pub mark : IsTrue (is_in (codes ";" ∷ codes "=" ∷ codes "," ∷ []) token.text)
   pub behind : EndsWithName before

@@ -23,11 +23,11 @@ CompletesField aliases (FieldReader.Base reader) = Then (CompletesBase aliases r
 CompletesField aliases (FieldReader.Declarators base reader) = Then (CompletesDeclarators reader)
     (λ ds. Gives (record { base = base; declarators = ds }))
 
--- behind these fields: more of them, and a `}`
+-- after these fields: more of them, and a `}`
 abbrev pub EndsFields : List (List ℕ) → List FieldTree → Tokens → Tokens → List FieldTree → Type 0
 EndsFields aliases fs tokens rest all = (after : Token) × MoreFields aliases fs tokens all (after ∷ rest) × IsMark (codes "}") after
 
--- behind these fields, and what has been read of another one: a struct has one at least
+-- after these fields, and what has been read of another one: a struct has one at least
 abbrev pub FieldsFrom : List (List ℕ) → List FieldTree → Option FieldReader → Tokens → Tokens → List FieldTree → Type 0
 FieldsFrom aliases [] None = Then (λ tokens rest f. IsField aliases f tokens rest) (λ f. EndsFields aliases (f ∷ []))
 FieldsFrom aliases (f ∷ fs) None = EndsFields aliases (f ∷ fs)
@@ -36,7 +36,7 @@ FieldsFrom aliases fs (Some reader) = Then (CompletesField aliases reader) (λ f
 abbrev pub CompletesFields : List (List ℕ) → FieldsReader → Tokens → Tokens → List FieldTree → Type 0
 CompletesFields aliases reader = FieldsFrom aliases (map field_of reader.done.items) reader.current
 
--- behind `struct S {`
+-- after `struct S {`
 abbrev pub CompletesStruct : List (List ℕ) → StructReader → Tokens → Tokens → StructTree → Type 0
 CompletesStruct aliases reader = Then (CompletesFields aliases reader.fields)
     (λ fs. Gives (record { place = reader.place; name = reader.name; fields = fs }))

@@ -29,7 +29,7 @@ pub data IsHeader (aliases : List (List ℕ)) : Tokens → Tokens → Header →
         name = name_of name;
       })
 
--- the same, behind the base of what it gives
+-- the same, after the base of what it gives
 pub data IsHeaderOf (base : Base) : Tokens → Tokens → Header → Type 0 where
   is_header_of : {pointer : Option Place} {name before : Token} {tokens rest : Tokens}
       → IsStar pointer tokens (name ∷ before ∷ rest) → IsName name
@@ -38,13 +38,13 @@ pub data IsHeaderOf (base : Base) : Tokens → Tokens → Header → Type 0 wher
         name = name_of name;
       })
 
--- the same, behind what it gives
+-- the same, after what it gives
 pub data IsNamed (returned : Returned) : Tokens → Tokens → Header → Type 0 where
   named : {name before : Token} {rest : Tokens} → IsName name
       → IsMark (codes "(") before → IsNamed returned (name ∷ before ∷ rest) rest
       (record { returned = returned; name = name_of name })
 
--- the same, behind its name
+-- the same, after its name
 pub data IsOpened (returned : Returned) (name : Name) : Tokens → Tokens → Header → Type 0 where
   opened : {before : Token} {rest : Tokens}
       → IsMark (codes "(") before → IsOpened returned name (before ∷ rest) rest

@@ -20,7 +20,7 @@ use Rattle.mc_c_parse.specs.Declarators.{IsDeclaratorsEnd, CompletesDeclarators}
 use Rattle.mc_c_parse.specs.Fields.{FieldsFrom, CompletesStruct}
 use Rattle.mc_c_parse.specs.Functions.{IsHeaderOf, BehindHeader, CompletesFunction}
 
--- behind `struct S`: its fields and what goes on behind them, or what goes on where it is a base
+-- after `struct S`: its fields and what goes on after them, or what goes on where it is a base
 pub data IsTagged {X : Type 0} (aliases : List (List ℕ)) (place : Place) (name : Name) (struct : StructTree
     → Tokens → Tokens → X → Type 0) (bare : Tokens → Tokens → X → Type 0) : Tokens → Tokens → X → Type 0 where
   with_fields : {before : Token} {tokens rest : Tokens} {x : X}
@@ -31,12 +31,12 @@ pub data IsTagged {X : Type 0} (aliases : List (List ℕ)) (place : Place) (name
       })) tokens rest x → IsTagged aliases place name struct bare (before ∷ tokens) rest x
   without_fields : {tokens rest : Tokens} {x : X} → bare tokens rest x → IsTagged aliases place name struct bare tokens rest x
 
--- behind `struct`: a name and the same
+-- after `struct`: a name and the same
 pub data IsTagOf {X : Type 0} (tagged : Name → Tokens → Tokens → X → Type 0) : Tokens → Tokens → X → Type 0 where
   tag_of : {name : Token} {tokens rest : Tokens} {x : X} → IsName name → tagged (name_of name) tokens rest x
       → IsTagOf tagged (name ∷ tokens) rest x
 
--- behind what a typedef gives names to
+-- after what a typedef gives names to
 abbrev pub EndsTypedef : Place → AliasedTree → Tokens → Tokens → TypedefTree → Type 0
 EndsTypedef place aliased = Then IsDeclaratorsEnd (λ ds. Gives (record { place = place; aliased = aliased; declarators = ds }))
 
@@ -55,7 +55,7 @@ TypedefFrom aliases place (TypedefPart.Declarators aliased reader) = Then (Compl
 abbrev pub CompletesTypedef : List (List ℕ) → TypedefReader → Tokens → Tokens → TypedefTree → Type 0
 CompletesTypedef aliases reader = TypedefFrom aliases reader.place reader.part
 
--- a `;` behind a struct
+-- a `;` after a struct
 pub data IsStructEnd (s : StructTree) : Tokens → Tokens → ItemTree → Type 0 where
   struct_end : {semicolon : Token} {rest : Tokens} → IsMark (codes ";") semicolon → IsStructEnd s (semicolon ∷ rest) rest (structure s)
 

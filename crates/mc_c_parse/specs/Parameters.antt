@@ -22,11 +22,11 @@ CompletesParameter aliases (ParameterReader.Base reader) = Then (CompletesBase a
 CompletesParameter aliases (ParameterReader.Declarator base reader) = Then (CompletesDeclarator reader)
     (λ d. Gives (record { base = base; declarator = d }))
 
--- a `)` behind the word `void` at this place
+-- a `)` after the word `void` at this place
 pub data IsVoidEnd (place : Place) : Tokens → Tokens → ParametersTree → Type 0 where
   void_end : {after : Token} {rest : Tokens} → IsMark (codes ")") after → IsVoidEnd place (after ∷ rest) rest (void place)
 
--- behind these parameters: more of them, and a `)`
+-- after these parameters: more of them, and a `)`
 abbrev pub EndsParameters : List (List ℕ) → List Parameter → Tokens → Tokens → ParametersTree → Type 0
 EndsParameters aliases ps tokens rest all = (listed_ones : List Parameter) × (after : Token)
     × MoreParameters aliases ps tokens listed_ones (after ∷ rest) × IsMark (codes ")") after

@@ -22,7 +22,7 @@ StepIs completes of now token (Taken reader) = Takes [] now (completes reader) t
 StepIs completes of now token (Closed t) = Closes now token (of t)
 StepIs completes of now token Stuck = IsStuckAt now token
 
--- the same of a reader that steps in place, of what completes it now and behind the token
+-- the same of a reader that steps in place, of what completes it now and after the token
 abbrev pub TookIs : {T X : Type 0} → (T → X) → (now behind : Tokens → Tokens → X → Type 0) → Token → Took T → Type 0
 TookIs of now behind token Took.Taken = Takes [] now behind token
 TookIs of now behind token (Took.Closed boxed) = Closes now token (of boxed.value)

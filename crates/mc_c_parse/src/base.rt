@@ -13,7 +13,7 @@ use std::alloc::{AllocError, Global};
 #[derive(Drop)]
 pub enum BaseReader {
     Start,
-    /// Behind the word `struct`.
+    /// After the word `struct`.
     Tag(Place),
 }
 

@@ -12,7 +12,7 @@ use std::alloc::{AllocError, Global};
 #[derive(Drop)]
 pub enum DeclaratorReader {
     Start,
-    /// Behind the `*`.
+    /// After the `*`.
     Star(Place),
 }
 

@@ -14,7 +14,7 @@ use std::alloc::{AllocError, Global};
 pub struct DeclaratorsReader {
     /// Those that are complete.
     pub done: Vec<Declarator>,
-    /// What has been read of the next one; nothing behind a complete one.
+    /// What has been read of the next one; nothing after a complete one.
     pub current: Option<DeclaratorReader>,
 }
 

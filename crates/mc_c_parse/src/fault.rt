@@ -24,7 +24,7 @@ impl From<AllocError> for ParseFault {
     }
 }
 
-/// The fault of a token that can't stand behind those before it.
+/// The fault of a token that can't stand after those before it.
 pub fn fault_at(alloc: Global, before: &[Token], token: &Token) -> ParseFault
     requires { HasNoEnd before.now }
     ensures { IsFaultAt before.now token.now result }

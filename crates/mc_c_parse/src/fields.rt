@@ -12,12 +12,12 @@ use mc_base::text::Token;
 use mc_c_syntax::ast::{Class, Field};
 use std::alloc::{AllocError, Global};
 
-/// What has been read of the fields of a struct, behind their `{`.
+/// What has been read of the fields of a struct, after their `{`.
 #[derive(Drop)]
 pub struct FieldsReader {
     /// Those that are complete.
     pub done: Vec<Field>,
-    /// What has been read of the next ones; nothing behind a `;` or the `{`.
+    /// What has been read of the next ones; nothing after a `;` or the `{`.
     pub current: Option<FieldReader>,
 }
 
@@ -25,7 +25,7 @@ pub struct FieldsReader {
 pub type FieldsStep = Step<FieldsReader, Vec<Field>>;
 
 impl FieldsReader {
-    /// A reader behind the `{`.
+    /// A reader after the `{`.
     pub fn new(alloc: Global) -> FieldsReader
         ensures none { result.done.items ≡ [] }
         ensures starts { result.current ≡ None }

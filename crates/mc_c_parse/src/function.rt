@@ -25,14 +25,14 @@ pub struct Signature {
     pub parameters: Parameters,
 }
 
-/// What has been read of a function, behind the word `static` if it has one.
+/// What has been read of a function, after the word `static` if it has one.
 #[derive(Drop)]
 pub enum FunctionReader {
     Header(Option<Place>, HeaderReader),
     Parameters(Option<Place>, Header, ParametersReader),
-    /// Behind the `)` of the parameters.
+    /// After the `)` of the parameters.
     Behind(Signature),
-    /// Behind the `{` at this place. The reader stands in a box, so that the others are small.
+    /// After the `{` at this place. The reader stands in a box, so that the others are small.
     Body(Signature, Place, Box<BodyReader>),
 }
 
@@ -43,7 +43,7 @@ pub type FunctionStep = Step<FunctionReader, Function>;
 pub type FunctionTook = Took<Function>;
 
 impl FunctionReader {
-    /// A reader at the start of a function, behind the word `static` at this place if it has one.
+    /// A reader at the start of a function, after the word `static` at this place if it has one.
     pub fn new(static_place: Option<Place>) -> FunctionReader
         ensures { result ≡ FunctionReader.Header static_place HeaderReader.Start }
     {

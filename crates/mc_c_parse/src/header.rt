@@ -22,11 +22,11 @@ pub struct Header {
 pub enum HeaderReader {
     Start,
     Base(BaseReader),
-    /// Behind the base of what it gives.
+    /// After the base of what it gives.
     Value(Base),
-    /// Behind `void` or a `*`.
+    /// After `void` or a `*`.
     Returned(Returned),
-    /// Behind its name.
+    /// After its name.
     Named(Returned, Name),
 }
 

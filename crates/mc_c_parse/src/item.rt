@@ -22,13 +22,13 @@ use std::mem;
 #[derive(Drop)]
 pub enum ItemReader {
     Start,
-    /// Behind the word `struct`.
+    /// After the word `struct`.
     Tag(Place),
-    /// Behind a struct's name: its fields, or a function that gives it.
+    /// After a struct's name: its fields, or a function that gives it.
     Tagged(Place, Name),
     /// Within a struct's fields.
     Struct(StructReader),
-    /// Behind a struct's `}`.
+    /// After a struct's `}`.
     Closing(Struct),
     Typedef(TypedefReader),
     Function(FunctionReader),
@@ -220,7 +220,7 @@ fn item_typedef(
     }
 }
 
-/// The first token of a function behind what is read of its head.
+/// The first token of a function after what is read of its head.
 fn item_header(
     alloc: Global,
     static_place: Option<Place>,

@@ -60,7 +60,7 @@ fn ends_with_name(before: &[Token]) -> bool
     }
 }
 
-/// Whether the token, which can't stand behind those before it, is the `(` of a call within an expression.
+/// Whether the token, which can't stand after those before it, is the `(` of a call within an expression.
 fn is_inner_call(
     alloc: Global,
     before: &[Token],
@@ -79,8 +79,7 @@ fn is_inner_call(
             if can_stand(alloc, before, b"+", token)? {
                 return Ok(true);
             }
-            let can = can_stand(alloc, before, b"&&", token)?;
-            Ok(can)
+            can_stand(alloc, before, b"&&", token)
         }
         _ => Ok(false),
     }
@@ -109,7 +108,7 @@ fn is_inner_pointer(
     }
 }
 
-/// Whether a name could stand in the place of the `*`, with a `,` or a `(` in that of the token behind it.
+/// Whether a name could stand in the place of the `*`, with a `,` or a `(` in that of the token after it.
 fn declares_behind(
     alloc: Global,
     first: &[Token],
@@ -126,8 +125,7 @@ fn declares_behind(
         return Ok(true);
     }
     let with_paren = [name_like(alloc, star)?, mark_at(alloc, b"(", token.place)?];
-    let can = can_begin(alloc, first, &with_paren)?;
-    Ok(can)
+    can_begin(alloc, first, &with_paren)
 }
 
 /// Whether the token belongs to a variable outside every function, or to the value of one.
@@ -159,7 +157,7 @@ fn is_outside(alloc: Global, before: &[Token], token: &Token) -> Result<bool, Al
     Ok(can)
 }
 
-/// Whether the token, which can't stand behind those before it, is a part of C that the language leaves out.
+/// Whether the token, which can't stand after those before it, is a part of C that the language leaves out.
 pub fn is_left_out(alloc: Global, before: &[Token], token: &Token) -> Result<bool, AllocError>
     requires { HasNoEnd before.now }
     ensures { IfOk result (λ is. MatchBool is (IsLeftOut before.now token.now) (¬ IsLeftOut before.now token.now)) }
@@ -174,6 +172,5 @@ pub fn is_left_out(alloc: Global, before: &[Token], token: &Token) -> Result<boo
     if is_inner_pointer(alloc, before, token, class)? {
         return Ok(true);
     }
-    let is = is_outer_variable(alloc, before, token)?;
-    Ok(is)
+    is_outer_variable(alloc, before, token)
 }

@@ -1,4 +1,4 @@
-// The parameters of a function, behind their `(`.
+// The parameters of a function, after their `(`.
 ghost use Rattle.mc_c_syntax.specs.Ast.Classes.{IsClass};
 ghost use Rattle.mc_c_syntax.specs.Ast.Names.{is_in};
 ghost use Rattle.mc_c_parse.specs.Parameters.{ParametersStepIs};
@@ -15,11 +15,11 @@ use std::alloc::{AllocError, Global};
 #[derive(Drop)]
 pub enum ParametersReader {
     Start,
-    /// Behind the word `void`.
+    /// After the word `void`.
     Void(Place),
-    /// Within a parameter, behind complete ones.
+    /// Within a parameter, after complete ones.
     Parameter(Vec<Parameter>, ParameterReader),
-    /// Behind a complete one.
+    /// After a complete one.
     Behind(Vec<Parameter>),
 }
 

@@ -8,7 +8,7 @@ use mc_base::text::{Place, Text, Token, TokenKind};
 use mc_c_parse_body::bodies_can_end;
 use std::alloc::{AllocError, Global};
 
-/// The reader behind these tokens; none where no program can have them there.
+/// The reader after these tokens; none where no program can have them there.
 fn behind(
     alloc: Global,
     mut reader: UnitReader,
@@ -28,7 +28,7 @@ fn behind(
     Ok(Some(reader))
 }
 
-/// Whether some program begins with the first tokens and the second ones behind them.
+/// Whether some program begins with the first tokens and the second ones after them.
 pub fn can_begin(alloc: Global, first: &[Token], second: &[Token]) -> Result<bool, AllocError>
     requires first { HasNoEnd first.now }
     requires second { HasNoEnd second.now }

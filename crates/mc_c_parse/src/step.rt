@@ -4,7 +4,7 @@ ghost use Rattle.std.specs.Prelude.{IfOk};
 
 use std::alloc::{AllocError, Global};
 
-/// What a reader makes of a token: it goes on, it is complete behind the token, or no text can have the token there.
+/// What a reader makes of a token: it goes on, it is complete after the token, or no text can have the token there.
 #[derive(Drop)]
 pub enum Step<R, T> {
     Taken(R),
@@ -12,7 +12,7 @@ pub enum Step<R, T> {
     Stuck,
 }
 
-/// The same of a reader that steps in place: it goes on, it is complete behind the token, or no text can have the token there.
+/// The same of a reader that steps in place: it goes on, it is complete after the token, or no text can have the token there.
 /// What is complete stands in a box, so that the answer to most tokens is small.
 #[derive(Drop)]
 pub enum Took<T> {

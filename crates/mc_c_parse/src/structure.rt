@@ -1,4 +1,4 @@
-// Structs with their fields, behind `struct S {`.
+// Structs with their fields, after `struct S {`.
 ghost use Rattle.mc_c_syntax.specs.Ast.Classes.{IsClass};
 ghost use Rattle.mc_c_syntax.specs.Ast.Names.{is_in};
 ghost use Rattle.mc_c_parse.specs.Fields.{StructStepIs};

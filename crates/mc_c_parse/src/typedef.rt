@@ -1,4 +1,4 @@
-// Typedefs, behind the word `typedef`.
+// Typedefs, after the word `typedef`.
 ghost use Rattle.mc_c_syntax.specs.Ast.Classes.{IsClass};
 ghost use Rattle.mc_c_syntax.specs.Ast.Names.{is_in};
 ghost use Rattle.mc_c_syntax.specs.Ast.Readers.{IsSame};
@@ -18,9 +18,9 @@ use std::alloc::{AllocError, Global};
 #[derive(Drop)]
 pub enum TypedefPart {
     Start,
-    /// Behind the word `struct`.
+    /// After the word `struct`.
     Tag(Place),
-    /// Behind a struct's name.
+    /// After a struct's name.
     Tagged(Place, Name),
     /// Within a struct's fields.
     Struct(StructReader),

@@ -19,13 +19,13 @@ use std::mem;
 pub struct UnitReader {
     /// The items that are complete.
     pub items: Vec<Item>,
-    /// What has been read of the next one; nothing behind a complete one.
+    /// What has been read of the next one; nothing after a complete one.
     pub current: Option<ItemReader>,
     /// The names that typedefs introduced so far.
     pub aliases: AliasNames,
 }
 
-/// Lets go of what is read. What holds a reader calls this.
+/// Drops what is read. What holds a reader calls this.
 impl Drop for UnitReader {
     fn drop(self) {
         let UnitReader {
@@ -135,7 +135,7 @@ impl UnitReader {
         }
     }
 
-    /// Goes on behind one more item.
+    /// Goes on after one more item.
     #[inline(never)]
     fn add(&mut self, alloc: Global, item: Box<Item>) -> Result<(), AllocError>
         requires { KnowsTypes self.old }

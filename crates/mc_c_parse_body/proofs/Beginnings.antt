@@ -24,7 +24,7 @@ module _ (aliases : List (List ℕ)) (goes : Stmt → Tokens → Tokens → List
   abbrev pub Line : Token → Tokens → Tokens → List Stmt → Type 0
   Line token tokens rest y = InTurn (Starts aliases) (λ start. goes (line_of token.place start)) (token ∷ tokens) rest y
 
-  -- behind the first token of a statement, by its class
+  -- after the first token of a statement, by its class
   abbrev pub Opened : Token → Class → Tokens → Tokens → List Stmt → Type 0
   Opened token Class.OpenBrace = InBlock aliases [] (λ ss. goes (block token.place (stmts_of ss)))
   Opened token Class.Do = InTurn (Statements aliases) (BehindDo token.place goes)
@@ -156,7 +156,7 @@ module _ (aliases : List (List ℕ)) (goes : Stmt → Tokens → Tokens → List
   opened_back token Class.OtherWord is h = line_back token h
   opened_back token Class.OtherNumber is h = line_back token h
 
-  -- a statement goes on behind its first token so
+  -- a statement goes on after its first token so
   pub opened_takes : {token : Token} (class : Class) → IsClass token class → Takes [] (InTurn (Statements aliases) goes) (Opened token class) token
   opened_takes {token} class is = record { forward = λ tokens rest y h. inl (opened token class tokens rest y is h); backward = λ tokens rest y h. opened_back token class is h }
 
@@ -214,7 +214,7 @@ module _ (aliases : List (List ℕ)) (goes : Stmt → Tokens → Tokens → List
   pub opens_line : {token : Token} (class : Class) → IsClass token class → (class ≡ Class.OpenBrace → ⊥) → (class ≡ Class.Do → ⊥) → (class ≡ Class.Free → ⊥) → (class ≡ Class.Assert → ⊥) → (class ≡ Class.Assume → ⊥) → (class ≡ Class.If → ⊥) → (class ≡ Class.While → ⊥) → (class ≡ Class.AssumeShape → ⊥) → (class ≡ Class.AssertShape → ⊥) → (class ≡ Class.AssertEmpty → ⊥) → (class ≡ Class.For → ⊥) → (class ≡ Class.Break → ⊥) → (class ≡ Class.Continue → ⊥) → (class ≡ Class.Return → ⊥) → SameAt (InTurn (Statements aliases) goes) (InTurn (Starts aliases) (λ start. goes (line_of token.place start))) token
   opens_line {token} class is f0 f1 f2 f3 f4 f5 f6 f7 f8 f9 f10 f11 f12 f13 = record { forward = λ tokens rest y h. at_line token class f0 f1 f2 f3 f4 f5 f6 f7 f8 f9 f10 f11 f12 f13 (opened token class tokens rest y is h); backward = λ tokens rest y h. line_back token h }
 
--- what comes behind a token is the same
+-- what comes after a token is the same
 pub next_same : {Y : Type 0} {Is : Token → Type 0} {one other : Tokens → Tokens → Y → Type 0} → IsSame one other → IsSame (Next Is (λ t. one)) (Next Is (λ t. other))
 next_same {Y = Y} {Is = Is} {one = one} {other = other} s = record { forward = go; backward = back }
   where

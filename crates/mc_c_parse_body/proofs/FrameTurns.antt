@@ -100,7 +100,7 @@ module _ (aliases : List (List ℕ)) where
   start_goes_on (Frame.Do place ∷ frames) body isnt = same_here
   start_goes_on (Frame.For h ∷ frames) body isnt = same_here
 
-  -- behind the first part of an `if`, at an `else`
+  -- after the first part of an `if`, at an `else`
   pub first_else : (place : Place) (c : Cond) (goes : Stmt → Tokens → Tokens → List Stmt → Type 0) (s : Stmt) {token : Token} → IsWord (codes "else") token → SameAt (BehindFirst aliases place c goes s) (Expects (Class.Else ∷ []) (InTurn (Statements aliases) (λ t. goes (if_else place c s t)))) token
   first_else place c goes s {token} is = record { forward = go; backward = back }
     where

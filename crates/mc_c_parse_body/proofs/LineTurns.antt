@@ -133,7 +133,7 @@ line_name aliases {token} is no_alias = record { forward = go; backward = back }
     back : (tokens rest : Tokens) (start : Start) → SimpleLine (λ tokens rest s. IsSimple aliases s (token ∷ tokens) rest) tokens rest start → IsStart aliases start (token ∷ tokens) rest
     back tokens rest start (in_turn s (next m ended)) = starts_performing s m
 
--- the token behind the name with which a simple statement begins
+-- the token after the name with which a simple statement begins
 data Second (token : Token) : Type 0 where
   arrow : IsMark (codes "->") token → Second token
   equals : IsMark (codes "=") token → Second token
@@ -182,7 +182,7 @@ second_no_star {token} is (plus_plus m) = let e : Class.PlusPlus ≡ Class.Star 
 second_no_star {token} is (minus_minus m) = let e : Class.MinusMinus ≡ Class.Star = class_of_mark Class.MinusMinus Class.Star token tt m is in cc
 second_no_star {token} is (opened m) = let e : Class.OpenParen ≡ Class.Star = class_of_mark Class.OpenParen Class.Star token tt m is in cc
 
--- behind the name of a type a name or `*` is no part of a simple statement
+-- after the name of a type a name or `*` is no part of a simple statement
 pub simple_stuck_name : (aliases : List (List ℕ)) (name : Name) {token : Token} → IsName token → IsStuckAt (SimpleLine (BehindName aliases name)) token
 simple_stuck_name aliases name is tokens rest start (in_turn s m) = second_no_name is (simple_second refl s)
 
@@ -195,7 +195,7 @@ initial_opens (bare (declarator no_star n)) = inr n
 initial_opens (with_value (declarator (star m) n) a r) = inl m
 initial_opens (with_value (declarator no_star n) a r) = inr n
 
--- behind the name of a type only a name or `*` goes on with a declaration
+-- after the name of a type only a name or `*` goes on with a declaration
 pub declaration_stuck : (aliases : List (List ℕ)) (name : Name) {token : Token} → ¬ IsName token → ¬ IsMark (codes "*") token → IsStuckAt (DeclarationLine (BehindBase aliases (Base.Alias name))) token
 declaration_stuck aliases name no_name no_mark tokens rest start (in_turn (in_turn i b) e) = elim (initial_opens i) [ inl m ↦ no_mark m | inr n ↦ no_name n ]
 

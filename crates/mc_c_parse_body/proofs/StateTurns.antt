@@ -30,7 +30,7 @@ body_step_along aliases reader BodyStep.Taken s h = takes_along s h
 body_step_along aliases reader (BodyStep.Closed ss) s h = closes_along s h
 body_step_along aliases reader BodyStep.Stuck s h = stuck_along s h
 
--- the marks behind which a part ends
+-- the marks after which a part ends
 data IsEnd : Class → Type 0 where
   semicolon : IsEnd Class.Semicolon
   close : IsEnd Class.CloseParen

@@ -30,7 +30,7 @@ rejects marks mark token none is among =
 pub then_rejects : {X Y : Type 0} {marks : List (List ℕ)} (mark : List ℕ) {first later : Tokens → Tokens → X → Type 0} {behind : X → Tokens → Tokens → Y → Type 0} {token : Token} → is_in marks mark ≡ false → ((x : X) (tokens rest : Tokens) (y : Y) → behind x (token ∷ tokens) rest y → IsMark mark token) → Takes marks first later token → Takes [] (InTurn first behind) (InTurn later behind) token
 then_rejects {marks = marks} mark {token = token} none begins t = then_takes t (λ x tokens rest y h among. absurd (rejects marks mark token none (begins x tokens rest y h) among))
 
--- the tree is there behind the token
+-- the tree is there after the token
 pub closes_ended : {Y : Type 0} {now : Tokens → Tokens → Y → Type 0} {token : Token} {y : Y} → Takes [] now (Ended y) token → Closes now token y
 closes_ended {Y = Y} {now = now} {token = token} {y = y} t = record { forward = λ tokens rest z h. side tokens rest z (t.forward tokens rest z h); backward = λ tokens. t.backward tokens tokens y ended }
   where

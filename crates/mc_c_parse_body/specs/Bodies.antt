@@ -12,7 +12,7 @@ use Rattle.mc_c_parse_body.specs.States.{AtState}
 use Rattle.mc_c_parse_body.specs.declared.state.BodyReader.{BodyReader}
 use Rattle.mc_c_parse_body.specs.declared.state.BodyStep.{BodyStep}
 
--- the statements of a function with the `}` behind them
+-- the statements of a function with the `}` after them
 abbrev pub Bodies : List (List ℕ) → Tokens → Tokens → List Stmt → Type 0
 Bodies aliases = InBlock aliases [] Ended
 

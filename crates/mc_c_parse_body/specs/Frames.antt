@@ -1,4 +1,4 @@
--- What is asked of the tokens behind a statement, by what it stands in.
+-- What is asked of the tokens after a statement, by what it stands in.
 use Rattle.std.specs.Prelude.{ℕ, List, [], ◌∷◌, ◌++◌, codes, map, reverse}
 use Rattle.mc_base.specs.declared.text.place.Place.{Place}
 use Rattle.mc_base.specs.declared.text.token.Token.{Token}
@@ -13,11 +13,11 @@ use Rattle.mc_c_parse_body.specs.Phrases.{Expects, Conditions, Statements, Liste
 use Rattle.mc_c_parse_body.specs.declared.frames.Frame.{Frame}
 use Rattle.mc_c_parse_body.specs.declared.frames.Nest.{Nest}
 
--- behind statements of a block: more of them, the `}`, and what follows the block
+-- after statements of a block: more of them, the `}`, and what follows the block
 abbrev pub InBlock : List (List ℕ) → List Stmt → (List Stmt → Tokens → Tokens → List Stmt → Type 0) → Tokens → Tokens → List Stmt → Type 0
 InBlock aliases before next = InTurn (Listed aliases before) (λ ss. Expects (Class.CloseBrace ∷ []) (next ss))
 
--- behind the first part of an `if`: an `else` with the second part, or no `else`
+-- after the first part of an `if`: an `else` with the second part, or no `else`
 pub data BehindFirst (aliases : List (List ℕ)) (place : Place) (c : Cond)
     (next : Stmt → Tokens → Tokens → List Stmt → Type 0) (s : Stmt) : Tokens → Tokens → List Stmt → Type 0 where
   only : {tokens rest : Tokens} {all : List Stmt} → IsNoElse tokens → next (if_only place c s) tokens rest all
@@ -26,12 +26,12 @@ pub data BehindFirst (aliases : List (List ℕ)) (place : Place) (c : Cond)
       → IsStatement aliases t tokens mid → next (if_else place c s t) mid rest all
       → BehindFirst aliases place c next s (token ∷ tokens) rest all
 
--- behind the body of a `do`
+-- after the body of a `do`
 abbrev pub BehindDo : Place → (Stmt → Tokens → Tokens → List Stmt → Type 0) → Stmt → Tokens → Tokens → List Stmt → Type 0
 BehindDo place next s = Expects (Class.While ∷ Class.OpenParen ∷ [])
     (InTurn Conditions (λ c. Expects (Class.CloseParen ∷ Class.Semicolon ∷ []) (next (do_loop place s c))))
 
--- behind a statement in this frame
+-- after a statement in this frame
 abbrev pub Inside : List (List ℕ) → Frame → (Stmt → Tokens → Tokens → List Stmt → Type 0) → Stmt → Tokens → Tokens → List Stmt → Type 0
 Inside aliases (Frame.Block place before) next s = InBlock aliases (map statement_of before.items ++ s ∷ [])
     (λ ss. next (block place (stmts_of ss)))
@@ -41,7 +41,7 @@ Inside aliases (Frame.While place c) next s = next (while_loop place (condition_
 Inside aliases (Frame.Do place) next s = BehindDo place next s
 Inside aliases (Frame.For h) next s = next (for_loop (head_of h.value) s)
 
--- behind a statement in these frames, of which the innermost comes first, in a body
+-- after a statement in these frames, of which the innermost comes first, in a body
 abbrev pub Behind : List (List ℕ) → List Frame → List Stmt → Stmt → Tokens → Tokens → List Stmt → Type 0
 Behind aliases [] body s = InBlock aliases (body ++ s ∷ []) Ended
 Behind aliases (frame ∷ frames) body s = Inside aliases frame (Behind aliases frames body) s
@@ -65,6 +65,6 @@ frames_of nest = reverse nest.frames.items
 abbrev pub body_of : Nest → List Stmt
 body_of nest = map statement_of nest.body.items
 
--- behind a statement in this nest
+-- after a statement in this nest
 abbrev pub Around : List (List ℕ) → Nest → Stmt → Tokens → Tokens → List Stmt → Type 0
 Around aliases nest = Behind aliases (frames_of nest) (body_of nest)

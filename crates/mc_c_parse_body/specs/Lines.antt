@@ -22,11 +22,11 @@ use Rattle.mc_c_parse_body.specs.declared.line.LineStep.{LineStep}
 abbrev pub DeclarationLine : (Tokens → Tokens → DeclarationTree → Type 0) → Tokens → Tokens → Start → Type 0
 DeclarationLine inner = InTurn inner (λ d. Ended (declares d))
 
--- behind a simple statement
+-- after a simple statement
 abbrev pub BehindSimple : SimpleTree → Tokens → Tokens → Start → Type 0
 BehindSimple s = Expects (Class.Semicolon ∷ []) (Ended (performs s))
 
--- the simple statement is the line, behind its `;`
+-- the simple statement is the line, after its `;`
 abbrev pub SimpleLine : (Tokens → Tokens → SimpleTree → Type 0) → Tokens → Tokens → Start → Type 0
 SimpleLine inner = InTurn inner BehindSimple
 
@@ -34,7 +34,7 @@ SimpleLine inner = InTurn inner BehindSimple
 abbrev pub token_of : Name → Token
 token_of name = record { kind = TokenKind.Name; text = name.text; place = name.place }
 
--- behind a name with which a simple statement begins
+-- after a name with which a simple statement begins
 abbrev pub BehindName : List (List ℕ) → Name → Tokens → Tokens → SimpleTree → Type 0
 BehindName aliases name tokens rest s = IsSimple aliases s (token_of name ∷ tokens) rest
 

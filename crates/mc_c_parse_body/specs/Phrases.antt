@@ -55,7 +55,7 @@ Starts aliases tokens rest start = IsStart aliases start tokens rest
 abbrev pub Statements : List (List ℕ) → Tokens → Tokens → Stmt → Type 0
 Statements aliases tokens rest s = IsStatement aliases s tokens rest
 
--- statements behind those that are there
+-- statements after those that are there
 abbrev pub Listed : List (List ℕ) → List Stmt → Tokens → Tokens → List Stmt → Type 0
 Listed aliases before tokens rest ss = MoreStatements aliases before tokens ss rest
 

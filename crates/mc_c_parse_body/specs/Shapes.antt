@@ -28,31 +28,31 @@ shaped (Shape.Assert place predicate start) all = assert_shape place predicate s
 abbrev pub Arguments : Tokens → Tokens → Argument → Type 0
 Arguments tokens rest a = IsArgument a tokens rest
 
--- the number behind a `-`
+-- the number after a `-`
 pub data BehindMinus (place : Place) : Tokens → Tokens → Argument → Type 0 where
   negative : {n : ℕ} {token : Token} {tokens : Tokens} → IsNumber token n
       → BehindMinus place (token ∷ tokens) tokens (Argument.Negative n place)
 
--- behind these last arguments, up to the `)`
+-- after these last arguments, up to the `)`
 abbrev pub BehindArguments : Shape → List Argument → Tokens → Tokens → Stmt → Type 0
 BehindArguments shape args = InTurn (λ tokens rest all. MoreArguments args tokens all rest)
     (λ all. Expects (Class.CloseParen ∷ []) (Ended (shaped shape all)))
 
--- behind an argument of this use
+-- after an argument of this use
 abbrev pub BehindUse : Use → Argument → Tokens → Tokens → Stmt → Type 0
 BehindUse (Use.Start place predicate) a = BehindArguments (Shape.Assert place predicate a) []
 BehindUse (Use.Last shape args) a = BehindArguments shape (args.items ++ a ∷ [])
 
--- behind the `,` that follows the predicate
+-- after the `,` that follows the predicate
 abbrev pub BehindComma : Command → Place → Name → Tokens → Tokens → Stmt → Type 0
 BehindComma Command.Assume place predicate = Next IsName (λ variable. BehindArguments (Shape.Assume place predicate (name_of variable)) [])
 BehindComma Command.Assert place predicate = InTurn Arguments (BehindUse (Use.Start place predicate))
 
--- behind the predicate
+-- after the predicate
 abbrev pub BehindPredicate : Command → Place → Name → Tokens → Tokens → Stmt → Type 0
 BehindPredicate command place predicate = Expects (Class.Comma ∷ []) (BehindComma command place predicate)
 
--- behind the `(` of a command
+-- after the `(` of a command
 abbrev pub BehindOpen : Command → Place → Tokens → Tokens → Stmt → Type 0
 BehindOpen command place = Next IsName (λ predicate. BehindPredicate command place (name_of predicate))
 

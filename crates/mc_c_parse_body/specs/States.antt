@@ -27,20 +27,20 @@ line_of place nothing = empty place
 line_of place (declares d) = declaration d
 line_of place (performs s) = simple s
 
--- behind the expression of a `free`
+-- after the expression of a `free`
 abbrev pub BehindFreed : Place → (Stmt → Tokens → Tokens → List Stmt → Type 0) → Expr → Tokens → Tokens → List Stmt → Type 0
 BehindFreed place next e = Expects (Class.CloseParen ∷ Class.Semicolon ∷ []) (next (free place e))
 
--- behind the value of a `return`
+-- after the value of a `return`
 abbrev pub BehindValue : Place → (Stmt → Tokens → Tokens → List Stmt → Type 0) → Right → Tokens → Tokens → List Stmt → Type 0
 BehindValue place next r = Expects (Class.Semicolon ∷ []) (next (returns place (Some r)))
 
--- behind `return`
+-- after `return`
 abbrev pub BehindReturn : List (List ℕ) → Place → (Stmt → Tokens → Tokens → List Stmt → Type 0) → Tokens → Tokens → List Stmt → Type 0
 BehindReturn aliases place next = Either (Expects (Class.Semicolon ∷ []) (next (returns place None)))
     (InTurn (Rights aliases) (BehindValue place next))
 
--- behind all that stands in the parentheses of a `for`
+-- after all that stands in the parentheses of a `for`
 abbrev pub BehindLast : List (List ℕ) → Place → Start → Option Cond → (Stmt → Tokens → Tokens → List Stmt → Type 0)
     → Option SimpleTree → Tokens → Tokens → List Stmt → Type 0
 BehindLast aliases place start c next last = Expects (Class.CloseParen
@@ -56,7 +56,7 @@ abbrev pub AtLast : List (List ℕ) → Place → Start → (Stmt → Tokens →
     → Tokens → Tokens → List Stmt → Type 0
 AtLast aliases place start next c = InTurn (MaybeSimples aliases) (BehindLast aliases place start c next)
 
--- behind the condition of a `for`
+-- after the condition of a `for`
 abbrev pub BehindForCondition : List (List ℕ) → Place → Start → (Stmt → Tokens → Tokens → List Stmt → Type 0)
     → Option Cond → Tokens → Tokens → List Stmt → Type 0
 BehindForCondition aliases place start next c = Expects (Class.Semicolon ∷ []) (AtLast aliases place start next c)
@@ -66,7 +66,7 @@ abbrev pub AtForCondition : List (List ℕ) → Place → (Stmt → Tokens → T
     → Tokens → List Stmt → Type 0
 AtForCondition aliases place next start = InTurn MaybeConditions (BehindForCondition aliases place start next)
 
--- behind a condition of this purpose
+-- after a condition of this purpose
 abbrev pub BehindPurpose : List (List ℕ) → Purpose → (Stmt → Tokens → Tokens → List Stmt → Type 0) → Cond → Tokens
     → Tokens → List Stmt → Type 0
 BehindPurpose aliases (Purpose.Assert place) next c = Expects (Class.CloseParen ∷ Class.Semicolon ∷ []) (next (assert place c))
@@ -79,13 +79,13 @@ BehindPurpose aliases (Purpose.Do place s) next c = Expects (Class.CloseParen �
     (next (do_loop place (statement_of s) c))
 BehindPurpose aliases (Purpose.For place start) next c = BehindForCondition aliases place (start_of start) next (Some c)
 
--- behind a line of this purpose
+-- after a line of this purpose
 abbrev pub BehindLine : List (List ℕ) → LinePurpose → (Stmt → Tokens → Tokens → List Stmt → Type 0) → Start → Tokens
     → Tokens → List Stmt → Type 0
 BehindLine aliases (LinePurpose.Statement place) next start = next (line_of place start)
 BehindLine aliases (LinePurpose.For place) next start = AtForCondition aliases place next start
 
--- behind a shape command without its `;`
+-- after a shape command without its `;`
 abbrev pub BehindShape : (Stmt → Tokens → Tokens → List Stmt → Type 0) → Stmt → Tokens → Tokens → List Stmt → Type 0
 BehindShape next s = Expects (Class.Semicolon ∷ []) (next s)
 

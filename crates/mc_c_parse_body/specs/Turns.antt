@@ -1,4 +1,4 @@
--- What becomes of a statement in a frame, by the token behind it.
+-- What becomes of a statement in a frame, by the token after it.
 use Rattle.std.specs.Prelude.{ℕ, List, [], ◌∷◌}
 use Rattle.mc_c_syntax.specs.declared.ast.class.Class.TheVariants as Class
 use Rattle.mc_c_syntax.specs.Ast.Names.{Tokens}
@@ -10,7 +10,7 @@ use Rattle.mc_c_parse_body.specs.declared.frames.Frame.{Frame}
 use Rattle.mc_c_parse_body.specs.declared.settle.Turn.{Turn}
 use Rattle.mc_c_parse_body.specs.declared.settle.Settled.{Settled}
 
--- what is asked of the tokens behind, in the frames around
+-- what is asked of the tokens after, in the frames around
 abbrev pub AtTurn : List (List ℕ) → List Frame → List Stmt → Turn → Tokens → Tokens → List Stmt → Type 0
 AtTurn aliases frames body (Turn.Whole s) = Behind aliases frames body (statement_of s)
 AtTurn aliases frames body (Turn.Start frame) = AtStart aliases (frame ∷ frames) body

@@ -133,7 +133,7 @@ fn begin(
     }
 }
 
-/// Behind `free`.
+/// After `free`.
 fn begin_free(reader: &mut BodyReader, place: Place) -> Result<BodyStep, AllocError>
     ensures { IfOk result (λ step. (step ≡ BodyStep.Taken)
         × ((aliases : List (List ℕ)) → IsSame (CompletesBody aliases reader.new) (Expects (Class.OpenParen
@@ -147,7 +147,7 @@ fn begin_free(reader: &mut BodyReader, place: Place) -> Result<BodyStep, AllocEr
     Ok(BodyStep::Taken)
 }
 
-/// Behind the word of a statement that a condition follows.
+/// After the word of a statement that a condition follows.
 fn begin_condition(reader: &mut BodyReader, purpose: Purpose) -> Result<BodyStep, AllocError>
     ensures { IfOk result (λ step. (step ≡ BodyStep.Taken)
         × ((aliases : List (List ℕ)) → IsSame (CompletesBody aliases reader.new) (Expects (Class.OpenParen
@@ -161,7 +161,7 @@ fn begin_condition(reader: &mut BodyReader, purpose: Purpose) -> Result<BodyStep
     Ok(BodyStep::Taken)
 }
 
-/// Behind the word of a shape command.
+/// After the word of a shape command.
 fn begin_shape(reader: &mut BodyReader, command: Command, place: Place) -> BodyStep
     ensures step { result ≡ BodyStep.Taken }
     ensures becomes { reader.new ≡ record {
@@ -176,7 +176,7 @@ fn begin_shape(reader: &mut BodyReader, command: Command, place: Place) -> BodyS
     BodyStep::Taken
 }
 
-/// Behind the word of a statement that has nothing else but this phrase.
+/// After the word of a statement that has nothing else but this phrase.
 fn begin_word(reader: &mut BodyReader, phrase: Phrase, statement: Statement) -> BodyStep
     ensures step { result ≡ BodyStep.Taken }
     ensures becomes { reader.new ≡ record { nest = reader.old.nest; expected = Some phrase; state = State.Behind statement } }
@@ -186,7 +186,7 @@ fn begin_word(reader: &mut BodyReader, phrase: Phrase, statement: Statement) -> 
     BodyStep::Taken
 }
 
-/// Behind `for`.
+/// After `for`.
 fn begin_for(reader: &mut BodyReader, place: Place) -> BodyStep
     ensures step { result ≡ BodyStep.Taken }
     ensures becomes { reader.new ≡ record {
@@ -201,7 +201,7 @@ fn begin_for(reader: &mut BodyReader, place: Place) -> BodyStep
     BodyStep::Taken
 }
 
-/// Behind `return`.
+/// After `return`.
 fn begin_return(reader: &mut BodyReader, place: Place) -> BodyStep
     ensures step { result ≡ BodyStep.Taken }
     ensures becomes { reader.new ≡ record { nest = reader.old.nest; expected = reader.old.expected; state = State.Return place } }

@@ -61,7 +61,7 @@ pub fn in_freed(
     }
 }
 
-/// Behind the expression of a `free`.
+/// After the expression of a `free`.
 fn behind_freed(
     reader: &mut BodyReader,
     place: Place,
@@ -105,7 +105,7 @@ pub fn in_condition(
     }
 }
 
-/// Behind a condition. It is kept out of line: a function clears all its values when it begins, and here they are large.
+/// After a condition. It is kept out of line: a function clears all its values when it begins, and here they are large.
 #[inline(never)]
 fn behind_condition(
     reader: &mut BodyReader,
@@ -128,7 +128,7 @@ fn behind_condition(
     }
 }
 
-/// Behind a condition for this purpose.
+/// After a condition for this purpose.
 fn behind_purpose(
     reader: &mut BodyReader,
     purpose: Purpose,
@@ -164,7 +164,7 @@ fn behind_purpose(
     }
 }
 
-/// At the `)` behind which a statement begins in this frame.
+/// At the `)` after which a statement begins in this frame.
 fn enter(
     reader: &mut BodyReader,
     frame: Frame,
@@ -210,7 +210,7 @@ pub fn in_line(
     }
 }
 
-/// Behind a line.
+/// After a line.
 fn behind_line(reader: &mut BodyReader, purpose: LinePurpose, start: ForStart) -> BodyStep
     requires { reader.old.expected ≡ None }
     ensures step { result ≡ BodyStep.Taken }
@@ -241,7 +241,7 @@ fn line_statement(place: Place, start: ForStart) -> Statement
     }
 }
 
-/// Behind `return`.
+/// After `return`.
 pub fn behind_return(
     reader: &mut BodyReader,
     place: Place,
@@ -296,7 +296,7 @@ pub fn in_value(
     }
 }
 
-/// Behind the value of a `return`.
+/// After the value of a `return`.
 fn behind_value(
     reader: &mut BodyReader,
     place: Place,

@@ -25,9 +25,9 @@ use std::mem;
 pub enum LineReader {
     /// Nothing is read.
     Start,
-    /// Behind `struct`.
+    /// After `struct`.
     Struct(Place),
-    /// Behind a name that a typedef introduced.
+    /// After a name that a typedef introduced.
     Alias(TypeName),
     Declaration(Box<DeclarationReader>),
     Simple(Box<SimpleReader>),
@@ -97,7 +97,7 @@ fn at_line(
     }
 }
 
-/// A reader of a declaration behind its base.
+/// A reader of a declaration after its base.
 fn declaring(alloc: Global, base: Base) -> Result<LineReader, AllocError>
     ensures { IfOk result (λ line. (aliases : List (List ℕ))
         → IsSame (CompletesLine aliases line) (DeclarationLine (BehindBase aliases base))) }
@@ -137,7 +137,7 @@ fn at_name(
     }
 }
 
-/// Behind `struct`.
+/// After `struct`.
 fn behind_struct(
     line: &mut LineReader,
     alloc: Global,
@@ -160,7 +160,7 @@ fn behind_struct(
     }
 }
 
-/// Behind a name that a typedef introduced.
+/// After a name that a typedef introduced.
 fn behind_alias(
     line: &mut LineReader,
     alloc: Global,
@@ -203,7 +203,7 @@ fn behind_known(
     }
 }
 
-/// Behind the name of a type with which a declaration begins.
+/// After the name of a type with which a declaration begins.
 fn declare(
     line: &mut LineReader,
     alloc: Global,
@@ -285,7 +285,7 @@ fn in_simple(
     }
 }
 
-/// Behind a simple statement, at its `;`.
+/// After a simple statement, at its `;`.
 fn behind_simple(simple: Simple, token: &Token, class: Class) -> LineStep
     requires { IsClass token.now class }
     ensures { (aliases : List (List ℕ)) (reader : SimpleReader)

@@ -32,7 +32,7 @@ impl Phrase {
         }
     }
 
-    /// What must come behind the first token.
+    /// What must come after the first token.
     pub fn behind(self) -> Option<Phrase>
         ensures { classes_of self ≡ first_of self ∷ expected_of result }
     {

@@ -30,7 +30,7 @@ pub enum Turn {
     Whole(Statement),
     /// The next statement begins in this frame.
     Start(Frame),
-    /// The second part of an `if` begins in this frame, behind the `else`.
+    /// The second part of an `if` begins in this frame, after the `else`.
     Else(Frame),
     /// The condition of a `do` comes next.
     Do(Place, Statement),
@@ -44,7 +44,7 @@ pub enum Settled {
     Do(Nest, Place, Statement),
 }
 
-/// Behind a whole statement.
+/// After a whole statement.
 pub fn behind(
     reader: &mut BodyReader,
     statement: Statement,
@@ -214,7 +214,7 @@ fn behind_else(reader: &mut BodyReader, token: &Token, class: Class) -> BodyStep
     }
 }
 
-/// Behind the body of a `do`.
+/// After the body of a `do`.
 fn behind_do(
     reader: &mut BodyReader,
     place: Place,

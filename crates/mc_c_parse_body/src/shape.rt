@@ -31,24 +31,24 @@ pub enum Shape {
 pub enum Use {
     /// Where an assertion starts.
     Start(Place, Name),
-    /// One of the last arguments, behind those before it.
+    /// One of the last arguments, after those before it.
     Last(Shape, Vec<Argument>),
 }
 
-/// Reads what stands behind the `(` of a shape command up to and with its `)`, token by token.
+/// Reads what stands after the `(` of a shape command up to and with its `)`, token by token.
 #[derive(Drop)]
 pub enum ShapeReader {
     /// The predicate comes next.
     Predicate(Command, Place),
-    /// The `,` behind the predicate comes next.
+    /// The `,` after the predicate comes next.
     Comma(Command, Place, Name),
     /// The variable comes next.
     Variable(Place, Name),
     /// An argument comes next.
     Argument(Use),
-    /// Behind a `-`.
+    /// After a `-`.
     Negative(Use, Place),
-    /// Behind these last arguments.
+    /// After these last arguments.
     Arguments(Shape, Vec<Argument>),
 }
 
@@ -195,7 +195,7 @@ fn behind_minus(
     }
 }
 
-/// The reader behind an argument.
+/// The reader after an argument.
 fn behind_use(alloc: Global, usage: Use, argument: Argument) -> Result<ShapeReader, AllocError>
     ensures { IfOk result (λ reader. IsSame (CompletesShape reader) (BehindUse usage argument)) }
 {

@@ -35,9 +35,9 @@ pub enum Purpose {
     Assume(Place),
     If(Place),
     While(Place),
-    /// The condition of a `do`, behind its body.
+    /// The condition of a `do`, after its body.
     Do(Place, Statement),
-    /// The condition of a `for`, behind its start.
+    /// The condition of a `for`, after its start.
     For(Place, ForStart),
 }
 
@@ -64,7 +64,7 @@ pub enum State {
     Shape(ShapeReader),
 }
 
-/// Lets go of what is read. What replaces a state calls this.
+/// Drops what is read. What replaces a state calls this.
 impl Drop for State {
     fn drop(self) {
         match self {
@@ -93,7 +93,7 @@ impl Drop for State {
     }
 }
 
-/// Reads the statements behind the `{` of a function, up to and with its `}`, token by token.
+/// Reads the statements after the `{` of a function, up to and with its `}`, token by token.
 #[derive(Drop)]
 pub struct BodyReader {
     pub(crate) nest: Nest,

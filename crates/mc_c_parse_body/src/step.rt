@@ -70,7 +70,7 @@ pub fn at_state(
     }
 }
 
-/// Behind a statement.
+/// After a statement.
 #[inline(never)]
 fn behind_whole(
     reader: &mut BodyReader,
@@ -93,7 +93,7 @@ fn behind_whole(
     }
 }
 
-/// Behind what a `for` begins with.
+/// After what a `for` begins with.
 #[inline(never)]
 fn behind_for_start(
     reader: &mut BodyReader,
@@ -116,7 +116,7 @@ fn behind_for_start(
     }
 }
 
-/// Behind the condition of a `for`.
+/// After the condition of a `for`.
 #[inline(never)]
 fn behind_for_condition(
     reader: &mut BodyReader,

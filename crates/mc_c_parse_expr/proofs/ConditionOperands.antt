@@ -31,7 +31,7 @@ bang_starts_none = record { minus = λ e. cc; before = λ e. cc; name = λ e. cc
 no_sum : {token : Token} {tokens rest : Tokens} {e : Expr} → IsMark (codes "!") token → IsSum e (token ∷ tokens) rest → ⊥
 no_sum m (sum_of (product u f) ts) = no_unary bang_starts_none m u
 
--- what stands behind a `!`
+-- what stands after a `!`
 data Bang (token : Token) (c : Cond) (tokens rest : Tokens) : Type 0 where
   bang : {d : Cond} → c ≡ negation token.place d → IsDenied d tokens rest → Bang token c tokens rest
 
@@ -215,7 +215,7 @@ sum_same gs e b bangs token q k p =
     let P : List Place → Type 0 = λ bs. SameAt (AtConditionOperand gs (record { either = e; both = b; bangs = bs })) (InTurn (λ tokens rest a. IsSum a tokens rest) (λ a. MaybeCompared (record { either = e; both = b; bangs = bs }) a (BehindCondition gs))) token in
     subst P (sym q) (record { forward = λ tokens rest x h. sum_forward gs e b k p h; backward = λ tokens rest x h. sum_backward gs e b h })
 
--- what stands behind `!`
+-- what stands after `!`
 variable_forward : {l : LeftValue} {token : Token} {tokens rest : Tokens} {c : Cond} → IsName token → left_of l ≡ record { name = name_of token; fields = [] } → IsDenied c (token ∷ tokens) rest → (e : Expr) × (c ≡ plain e) × CompletesPrimary (Primary.Left l) tokens rest e
 variable_forward m q (denied_bang b) = absurd (mark_name (bang_mark b) m)
 variable_forward {tokens = tokens} {rest = rest} m q (denied_variable {l = all} (named n f)) = (value all, refl, behind_left (let P : Left → Type 0 = λ l. Fields l tokens all rest in subst P (sym q) f))
@@ -255,7 +255,7 @@ no_denied k p n i (denied_parens m c a) = p m
 pub denied_stuck : (class : Class) (token : Token) → (class ≡ Class.Bang → ⊥) → (class ≡ Class.OpenParen → ⊥) → (class ≡ Class.Name → ⊥) → (class ≡ Class.Input → ⊥) → IsClass token class → BeginsDenied token None
 denied_stuck class token k p n i h = λ tokens rest x d. no_denied (λ m. k (bang_is class token m h)) (λ m. p (before_is class token m h)) (λ m. n (name_is class token m h)) (λ m. i (input_is class token m h)) d
 
--- an operand behind some `!`
+-- an operand after some `!`
 operand_denied : (bangs : List Place) → (bangs ≡ [] → ⊥) → {c : Cond} {tokens rest : Tokens} → IsOperand bangs c tokens rest → IsDenied c tokens rest
 operand_denied [] filled o = absurd (filled refl)
 operand_denied (place ∷ places) filled o = o

@@ -46,7 +46,7 @@ with_either (in_turn es b) = joins no_both es b
 joins_end : (gs : List ConditionGroup) {pending : ConditionPending} {c : Cond} {token : Token} {tokens rest : Tokens} {x : Cond} → (IsMark (codes "&&") token → ⊥) → (IsMark (codes "||") token → ⊥) → (IsMark (codes ")") token → ⊥) → Joins pending c (BehindCondition gs) (token ∷ tokens) rest x → rest ≡ token ∷ tokens
 joins_end gs a o p h = condition_ends gs _ _ _ _ _ p (either_ends {ends = BehindCondition gs} o (without_and a h))
 
--- behind the operand, where no `&&` stands
+-- after the operand, where no `&&` stands
 pub either_same : (gs below : List ConditionGroup) (pending : ConditionPending) (c w : Cond) (token : Token) → below ≡ gs → (IsMark (codes "&&") token → ⊥) → w ≡ Specs.either_of pending.either (Specs.both_of pending.both (denied pending.bangs c)) → SameAt (Joins pending c (BehindCondition gs)) (AtEither below w) token
 either_same gs below pending c w token b a e =
     let P : List ConditionGroup → Type 0 = λ g. SameAt (Joins pending c (BehindCondition gs)) (AtEither g w) token in
@@ -75,7 +75,7 @@ or_backward gs m q (in_turn o (joins {b = v} {d = t} {mid = behind} {more = mid}
 pub or_takes : (gs : List ConditionGroup) (w : Cond) (a : Condition) (token : Token) → IsMark (codes "||") token → condition_of a ≡ w → Takes condition_marks (AtEither gs w) (AtConditionOperand gs (record { either = Some a; both = None; bangs = [] })) token
 or_takes gs w a token m q = record { forward = λ tokens rest x h. or_forward gs m q h; backward = λ tokens rest x h. or_backward gs m q h }
 
--- behind a whole condition, outside all parentheses
+-- after a whole condition, outside all parentheses
 none_finds : (w : Cond) (token : Token) → (IsMark (codes "||") token → ⊥) → Finds (AtEither [] w) token w
 none_finds w token o = record { forward = λ tokens rest x h. either_ends {ends = BehindCondition []} o h; backward = λ tokens. in_turn no_either (refl, refl) }
 

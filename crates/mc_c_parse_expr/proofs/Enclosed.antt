@@ -1,4 +1,4 @@
--- What stands behind parentheses.
+-- What stands after parentheses.
 use Rattle.std.proofs.Common.{◌≡◌, List, [], ◌∷◌, refl, sym, subst}
 use Rattle.mc_base.specs.declared.text.place.Place.{Place}
 use Rattle.mc_c_syntax.specs.declared.ast.trees.Condition.{Condition}
@@ -54,7 +54,7 @@ filled_same : (bangs : List Place) (place : Place) (w : Cond) (pending : Conditi
 filled_same [] place w pending ends filled = absurd (filled refl)
 filled_same (bang ∷ bangs) place w pending ends filled = same_itself _
 
--- any condition behind `!`
+-- any condition after `!`
 pub denied_enclosed : (bangs : List Place) (place : Place) (w : Cond) (c : Condition) → (bangs ≡ [] → ⊥) → condition_of c ≡ w → IsEnclosed bangs place w (ConditionSpot.Whole (Whole.Parens place c))
 denied_enclosed bangs place w c filled q groups pending =
     let Q : Cond → Type 0 = λ d. IsSame (Joins pending (enclosed place d) (BehindCondition groups)) (BehindClose bangs pending place w (BehindCondition groups)) in

@@ -50,7 +50,7 @@ behind_can_end : (gs : List Group) (s : Expr) → CanEnd (Behind gs s)
 behind_can_end [] s = record { more = []; tree = s; completes = λ rest. (refl, refl) }
 behind_can_end (g ∷ gs) s = group_can_end g gs s (goes_can_end (behind_can_end gs (sum_of g.outer.sum (product_of g.outer.factor (negated g.outer.minuses (parens g.place s))))))
 
--- behind an operand
+-- after an operand
 pub unary_can_end : (gs : List Group) (pending : Pending) (u : Expr) → CanEnd (GoesOn pending u (Behind gs))
 unary_can_end gs pending u = goes_can_end (behind_can_end gs (sum_of pending.sum (product_of pending.factor (negated pending.minuses u))))
 

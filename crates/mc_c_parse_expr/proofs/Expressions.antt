@@ -27,13 +27,13 @@ behind_open_group : (gs : List Group) (s : Expr) (token : Token) (tokens rest : 
 behind_open_group [] s token tokens rest e filled c h = filled refl
 behind_open_group (g ∷ gs) s token tokens rest e filled c (more, marked m, h) = c m
 
--- what ends a sum, behind a token that is no `+` or `-`
+-- what ends a sum, after a token that is no `+` or `-`
 pub sum_ends : {ends : Expr → Tokens → Tokens → Expr → Type 0} {s : Expr} {token : Token} {tokens rest : Tokens} {e : Expr} → (IsMark (codes "+") token → ⊥) → (IsMark (codes "-") token → ⊥) → InTurn (λ tokens rest a. Terms s tokens a rest) ends (token ∷ tokens) rest e → ends s (token ∷ tokens) rest e
 sum_ends p m (in_turn no_term b) = b
 sum_ends p m (in_turn (added q t ts) b) = absurd (p q)
 sum_ends p m (in_turn (taken q t ts) b) = absurd (m q)
 
--- no `*` stands behind the operand
+-- no `*` stands after the operand
 pub without_star : {ends : Expr → Tokens → Tokens → Expr → Type 0} {pending : Pending} {u : Expr} {token : Token} {tokens rest : Tokens} {e : Expr} → (IsMark (codes "*") token → ⊥) → GoesOn pending u ends (token ∷ tokens) rest e → InTurn (λ tokens rest a. Terms (Specs.sum_of pending.sum (product_of pending.factor (negated pending.minuses u))) tokens a rest) ends (token ∷ tokens) rest e
 without_star s (goes_on no_factor ts b) = in_turn ts b
 without_star s (goes_on (factor q u f) ts b) = absurd (s q)
@@ -68,7 +68,7 @@ plus_backward gs p (in_turn u (goes_on f ts b)) = in_turn (added p (product u f)
 pub plus_takes : (gs : List Group) (a : Expression) (token : Token) → IsMark (codes "+") token → Takes expression_marks (AtSum gs (expression_of a)) (AtOperand gs (record { sum = Some (Summed.Plus a); factor = None; minuses = [] })) token
 plus_takes gs a token p = record { forward = λ tokens rest x h. plus_forward gs p h; backward = λ tokens rest x h. plus_backward gs p h }
 
--- `-` behind an operand
+-- `-` after an operand
 difference_forward : (gs : List Group) {a : Expression} {token : Token} {tokens rest : Tokens} {e : Expr} → IsMark (codes "-") token → AtSum gs (expression_of a) (token ∷ tokens) rest e → AtOperand gs (record { sum = Some (Summed.Difference a); factor = None; minuses = [] }) tokens rest e ⊎ ((rest ≡ token ∷ tokens) × IsTrue (is_in expression_marks token.text))
 difference_forward gs p (in_turn no_term b) = inr (behind_ends gs _ _ _ _ _ (clash (codes "-") (codes ")") refl refl p) b, is_of expression_marks (codes "-") refl p)
 difference_forward gs p (in_turn (added q t ts) b) = absurd (clash (codes "-") (codes "+") refl refl p q)
@@ -80,7 +80,7 @@ difference_backward gs p (in_turn u (goes_on f ts b)) = in_turn (taken p (produc
 pub difference_takes : (gs : List Group) (a : Expression) (token : Token) → IsMark (codes "-") token → Takes expression_marks (AtSum gs (expression_of a)) (AtOperand gs (record { sum = Some (Summed.Difference a); factor = None; minuses = [] })) token
 difference_takes gs a token p = record { forward = λ tokens rest x h. difference_forward gs p h; backward = λ tokens rest x h. difference_backward gs p h }
 
--- behind a whole sum, outside all parentheses
+-- after a whole sum, outside all parentheses
 pub end_finds : (s : Expr) (token : Token) → (IsMark (codes "+") token → ⊥) → (IsMark (codes "-") token → ⊥) → Finds (AtSum [] s) token s
 end_finds s token p m = record { forward = λ tokens rest x h. sum_ends {ends = Behind []} p m h; backward = λ tokens. in_turn no_term (refl, refl) }
 
@@ -121,7 +121,7 @@ sum_same gs pending u s token other e =
     let P : Expr → Type 0 = λ x. SameAt (GoesOn pending u (Behind gs)) (AtSum gs x) token in
     subst P (sym e) (record { forward = λ tokens rest x h. without_star other h; backward = λ tokens rest x h. with_sum h })
 
--- behind `->` nothing goes on but fields
+-- after `->` nothing goes on but fields
 pub primary_ends : (gs : List Group) (pending : Pending) (token : Token) → EndsAt primary_marks expression_marks (λ u. GoesOn pending u (Behind gs)) token
 primary_ends gs pending token known u tokens rest e h =
     (goes_ends gs (not_in primary_marks (codes "*") refl known) (not_in primary_marks (codes "+") refl known) (not_in primary_marks (codes "-") refl known) (not_in primary_marks (codes ")") refl known) h, known_more token.text known)

@@ -60,18 +60,18 @@ pub data IsDenied : Cond → Tokens → Tokens → Type 0 where
       → IsMark (codes "(") before → IsCondition c tokens (after ∷ rest) → IsMark (codes ")") after
       → IsDenied (enclosed before.place c) (before ∷ tokens) rest
 
--- what comes next behind these `!` signs
+-- what comes next after these `!` signs
 abbrev pub IsOperand : List Place → Cond → Tokens → Tokens → Type 0
 IsOperand [] = IsOne
 IsOperand (place ∷ places) = IsDenied
 
--- behind the operand c: what completes it with `&&` and `||`, up to what ends that
+-- after the operand c: what completes it with `&&` and `||`, up to what ends that
 pub data Joins (pending : ConditionPending) (c : Cond) (ends : Cond → Tokens → Tokens → Cond → Type 0)
     (tokens rest : Tokens) (x : Cond) : Type 0 where
   joins : {b d : Cond} {mid more : Tokens} → Boths (both_of pending.both (denied pending.bangs c)) tokens b mid
       → Eithers (either_of pending.either b) mid d more → ends d more rest x → Joins pending c ends tokens rest x
 
--- behind an expression with which an operand begins: it is the operand, or is compared
+-- after an expression with which an operand begins: it is the operand, or is compared
 pub data MaybeCompared (pending : ConditionPending) (e : Expr)
     (ends : Cond → Tokens → Tokens → Cond → Type 0) : Tokens → Tokens → Cond → Type 0 where
   alone : {tokens rest : Tokens} {x : Cond} → Joins pending (plain e) ends tokens rest x → MaybeCompared pending e ends tokens rest x
@@ -79,18 +79,18 @@ pub data MaybeCompared (pending : ConditionPending) (e : Expr)
       → IsMark (mark_of comparison) mark → IsSum b tokens mid
       → Joins pending (compare comparison e b) ends mid rest x → MaybeCompared pending e ends (mark ∷ tokens) rest x
 
--- behind parentheses around a condition; around a plain expression they are an expression
+-- after parentheses around a condition; around a plain expression they are an expression
 abbrev pub BehindParens : ConditionPending → Place → Cond → (Cond → Tokens → Tokens → Cond → Type 0) → Tokens → Tokens → Cond → Type 0
 BehindParens pending place (plain e) ends = InTurn (BehindOperand (parens place e)) (λ a. MaybeCompared pending a ends)
 BehindParens pending place c ends = Joins pending (enclosed place c) ends
 
--- the same, where a `!` may stand before the parentheses: behind it they are no expression
+-- the same, where a `!` may stand before the parentheses: after it they are no expression
 abbrev pub BehindClose : List Place → ConditionPending → Place → Cond → (Cond → Tokens → Tokens → Cond → Type 0)
     → Tokens → Tokens → Cond → Type 0
 BehindClose [] pending place c ends = BehindParens pending place c ends
 BehindClose (bang ∷ bangs) pending place c ends = Joins pending (enclosed place c) ends
 
--- behind the condition c, within these parentheses
+-- after the condition c, within these parentheses
 abbrev pub BehindCondition : List ConditionGroup → Cond → Tokens → Tokens → Cond → Type 0
 BehindCondition [] c tokens rest x = (rest ≡ tokens) × (x ≡ c)
 BehindCondition (g ∷ gs) c tokens rest x = (more : Tokens) × Marked (codes ")") tokens more
@@ -131,7 +131,7 @@ at_right (ConditionSpot.Whole c) b = plain b
 abbrev pub CompletesCondition : ConditionReader → Tokens → Tokens → Cond → Type 0
 CompletesCondition r = AtConditionSpot r.spot r.groups r.pending
 
--- behind the beginning c of a condition, where no `&&` stands
+-- after the beginning c of a condition, where no `&&` stands
 abbrev pub AtEither : List ConditionGroup → Cond → Tokens → Tokens → Cond → Type 0
 AtEither groups c = InTurn (λ tokens rest d. Eithers c tokens d rest) (BehindCondition groups)
 
@@ -140,7 +140,7 @@ abbrev pub condition_marks : List (List ℕ)
 condition_marks = codes "+" ∷ codes "-" ∷ codes "*" ∷ codes "->" ∷ codes "==" ∷ codes "!=" ∷ codes "<" ∷ codes "<="
     ∷ codes ">" ∷ codes ">=" ∷ codes "&&" ∷ codes "||" ∷ []
 
--- what a step says of what completes the reader now, and behind the token
+-- what a step says of what completes the reader now, and after the token
 abbrev pub StepsCondition : (now behind : Tokens → Tokens → Cond → Type 0) → Token → ConditionStep → Type 0
 StepsCondition now behind token ConditionStep.Taken = Takes condition_marks now behind token
 StepsCondition now behind token (ConditionStep.Found c) = Finds now token (condition_of c)
@@ -151,13 +151,13 @@ abbrev pub IsSeen : Whole → Result Expression Whole → Type 0
 IsSeen whole (Ok e) = whole_of whole ≡ plain (expression_of e)
 IsSeen whole (Err other) = (other ≡ whole) × IsProper (whole_of whole)
 
--- the first token of a variable or field, or of `input()`, behind a `!`
+-- the first token of a variable or field, or of `input()`, after a `!`
 abbrev pub BeginsDenied : Token → Option Primary → Type 0
 BeginsDenied token None = IsStuckAt (λ tokens rest c. IsDenied c tokens rest) token
 BeginsDenied token (Some p) = Moves (λ tokens rest c. IsDenied c tokens rest)
     (λ tokens rest c. (e : Expr) × (c ≡ plain e) × CompletesPrimary p tokens rest e) token
 
--- behind these parentheses a reader stands so
+-- after these parentheses a reader stands so
 abbrev pub IsEnclosed : List Place → Place → Cond → ConditionSpot → Type 0
 IsEnclosed bangs place c spot = (groups : List ConditionGroup) (pending : ConditionPending)
     → IsSame (AtConditionSpot spot groups pending) (BehindClose bangs pending place c (BehindCondition groups))

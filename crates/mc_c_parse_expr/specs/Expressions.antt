@@ -38,20 +38,20 @@ sum_of None t = t
 sum_of (Some (Summed.Plus a)) t = plus (expression_of a) t
 sum_of (Some (Summed.Difference a)) t = difference (expression_of a) t
 
--- behind the operand u: what completes its product and its sum, up to what ends that
+-- after the operand u: what completes its product and its sum, up to what ends that
 pub data GoesOn (pending : Pending) (u : Expr) (ends : Expr → Tokens → Tokens → Expr → Type 0) (tokens rest : Tokens)
     (e : Expr) : Type 0 where
   goes_on : {t s : Expr} {mid more : Tokens}
       → Factors (product_of pending.factor (negated pending.minuses u)) tokens t mid
       → Terms (sum_of pending.sum t) mid s more → ends s more rest e → GoesOn pending u ends tokens rest e
 
--- behind the sum s, within these parentheses
+-- after the sum s, within these parentheses
 abbrev pub Behind : List Group → Expr → Tokens → Tokens → Expr → Type 0
 Behind [] s tokens rest e = (rest ≡ tokens) × (e ≡ s)
 Behind (g ∷ gs) s tokens rest e = (more : Tokens) × Marked (codes ")") tokens more
     × GoesOn g.outer (parens g.place s) (Behind gs) more rest e
 
--- behind the beginning s of a sum, where no `*` stands
+-- after the beginning s of a sum, where no `*` stands
 abbrev pub AtSum : List Group → Expr → Tokens → Tokens → Expr → Type 0
 AtSum groups s = InTurn (λ tokens rest a. Terms s tokens a rest) (Behind groups)
 
@@ -68,11 +68,11 @@ AtSpot (Spot.Unary u) groups pending = GoesOn pending (expression_of u) (Behind 
 abbrev pub CompletesExpression : ExpressionReader → Tokens → Tokens → Expr → Type 0
 CompletesExpression r = AtSpot r.spot r.groups r.pending
 
--- behind an operand
+-- after an operand
 abbrev pub BehindOperand : Expr → Tokens → Tokens → Expr → Type 0
 BehindOperand u = InTurn (λ tokens rest a. Factors u tokens a rest) (λ a tokens rest e. Terms a tokens e rest)
 
--- behind a name with which an operand begins
+-- after a name with which an operand begins
 abbrev pub BehindName : Name → Tokens → Tokens → Expr → Type 0
 BehindName name = InTurn (λ tokens rest l. Fields (record { name = name; fields = [] }) tokens l rest) (λ l. BehindOperand (value l))
 
@@ -80,7 +80,7 @@ BehindName name = InTurn (λ tokens rest l. Fields (record { name = name; fields
 abbrev pub expression_marks : List (List ℕ)
 expression_marks = codes "+" ∷ codes "-" ∷ codes "*" ∷ codes "->" ∷ []
 
--- what a step says of what completes the reader now, and behind the token
+-- what a step says of what completes the reader now, and after the token
 abbrev pub StepsExpression : (now behind : Tokens → Tokens → Expr → Type 0) → Token → ExpressionStep → Type 0
 StepsExpression now behind token ExpressionStep.Taken = Takes expression_marks now behind token
 StepsExpression now behind token (ExpressionStep.Found e) = Finds now token (expression_of e)

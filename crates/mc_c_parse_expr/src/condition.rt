@@ -28,7 +28,7 @@ pub struct ConditionReader {
     spot: ConditionSpot,
 }
 
-/// Lets go of what is read. What holds a reader calls this.
+/// Drops what is read. What holds a reader calls this.
 impl Drop for ConditionReader {
     fn drop(self) {
         let ConditionReader {
@@ -64,7 +64,7 @@ struct ConditionPending {
     bangs: Stack<Place>,
 }
 
-/// Lets go of what waits. What replaces it calls this.
+/// Drops what waits. What replaces it calls this.
 impl Drop for ConditionPending {
     fn drop(self) {
         let ConditionPending {
@@ -85,12 +85,12 @@ struct ConditionGroup {
     outer: ConditionPending,
 }
 
-/// What the reader stands behind.
+/// What the reader stands after.
 #[derive(Drop)]
 enum ConditionSpot {
     /// An operand comes next.
     Operand,
-    /// The beginning of an operand behind a `!`.
+    /// The beginning of an operand after a `!`.
     Primary(Primary),
     /// The beginning of an expression.
     Sum(ExpressionReader),
@@ -327,7 +327,7 @@ impl ConditionReader {
         }
     }
 
-    /// Behind the right side of a comparison.
+    /// After the right side of a comparison.
     fn behind_right(
         &mut self,
         right: Expression,
@@ -340,8 +340,7 @@ impl ConditionReader {
             (BehindCondition self.old.groups)) (CompletesCondition self.new) token.now step) }
     {
         let spot = mem::replace(&mut self.spot, ConditionSpot::Operand);
-        let step = self.behind_whole(compared(spot, right), token, class)?;
-        Ok(step)
+        self.behind_whole(compared(spot, right), token, class)
     }
 
     fn behind_whole(
@@ -465,7 +464,7 @@ fn compared(spot: ConditionSpot, right: Expression) -> Whole
     }
 }
 
-/// What stands behind parentheses: an expression, if one is in them and no `!` before them.
+/// What stands after parentheses: an expression, if one is in them and no `!` before them.
 fn enclosed(
     alloc: Global,
     place: Place,
@@ -524,26 +523,11 @@ fn made(alloc: Global, whole: Whole) -> Result<Condition, AllocError>
 {
     match whole {
         Whole::Plain(sum) => Ok(Condition::Plain(sum)),
-        Whole::Compare(mark, left, right) => {
-            let compared = compare_of(alloc, mark, left, right)?;
-            Ok(compared)
-        }
-        Whole::Not(place, condition) => {
-            let denied = not_of(alloc, place, condition)?;
-            Ok(denied)
-        }
-        Whole::Parens(place, condition) => {
-            let enclosed = enclosed_of(alloc, place, condition)?;
-            Ok(enclosed)
-        }
-        Whole::Both(left, right) => {
-            let both = both_of(alloc, left, right)?;
-            Ok(both)
-        }
-        Whole::Either(left, right) => {
-            let either = either_of(alloc, left, right)?;
-            Ok(either)
-        }
+        Whole::Compare(mark, left, right) => compare_of(alloc, mark, left, right),
+        Whole::Not(place, condition) => not_of(alloc, place, condition),
+        Whole::Parens(place, condition) => enclosed_of(alloc, place, condition),
+        Whole::Both(left, right) => both_of(alloc, left, right),
+        Whole::Either(left, right) => either_of(alloc, left, right),
     }
 }
 

@@ -24,7 +24,7 @@ pub struct ExpressionReader {
     spot: Spot,
 }
 
-/// Lets go of what is read. What holds a reader calls this.
+/// Drops what is read. What holds a reader calls this.
 impl Drop for ExpressionReader {
     fn drop(self) {
         let ExpressionReader {
@@ -59,7 +59,7 @@ struct Pending {
     minuses: Stack<Place>,
 }
 
-/// Lets go of what waits. What replaces it calls this.
+/// Drops what waits. What replaces it calls this.
 impl Drop for Pending {
     fn drop(self) {
         let Pending {
@@ -73,7 +73,7 @@ impl Drop for Pending {
     }
 }
 
-/// A sum with the `+` or `-` behind it.
+/// A sum with the `+` or `-` after it.
 #[derive(Drop)]
 enum Summed {
     Plus(Expression),
@@ -87,7 +87,7 @@ struct Group {
     outer: Pending,
 }
 
-/// What the reader stands behind.
+/// What the reader stands after.
 #[derive(Drop)]
 enum Spot {
     /// An operand comes next.
@@ -106,7 +106,7 @@ impl ExpressionReader {
         at_spot(alloc, Spot::Operand)
     }
 
-    /// A reader of what is left of an expression behind a name with which it begins.
+    /// A reader of what is left of an expression after a name with which it begins.
     pub fn behind_name(alloc: Global, name: Name) -> ExpressionReader
         ensures { IsSame (CompletesExpression result) (BehindName name) }
     {
@@ -117,7 +117,7 @@ impl ExpressionReader {
         at_spot(alloc, Spot::Primary(Primary::Left(left)))
     }
 
-    /// A reader of what is left of an expression behind an operand with which it begins.
+    /// A reader of what is left of an expression after an operand with which it begins.
     pub fn behind_operand(alloc: Global, operand: Expression) -> ExpressionReader
         ensures { IsSame (CompletesExpression result) (BehindOperand (expression_of operand)) }
     {
@@ -357,10 +357,7 @@ fn multiplied(
 {
     match factor {
         None => Ok(operand),
-        Some(left) => {
-            let product = times_of(alloc, left, operand)?;
-            Ok(product)
-        }
+        Some(left) => times_of(alloc, left, operand),
     }
 }
 
@@ -369,14 +366,8 @@ fn added(alloc: Global, sum: Option<Summed>, product: Expression) -> Result<Expr
 {
     match sum {
         None => Ok(product),
-        Some(Summed::Plus(left)) => {
-            let sum = plus_of(alloc, left, product)?;
-            Ok(sum)
-        }
-        Some(Summed::Difference(left)) => {
-            let sum = less_of(alloc, left, product)?;
-            Ok(sum)
-        }
+        Some(Summed::Plus(left)) => plus_of(alloc, left, product),
+        Some(Summed::Difference(left)) => less_of(alloc, left, product),
     }
 }
 

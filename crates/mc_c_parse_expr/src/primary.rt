@@ -14,7 +14,7 @@ use std::alloc::{AllocError, Global};
 pub enum Primary {
     /// A whole variable or field.
     Left(LeftValue),
-    /// One with a `->` behind it.
+    /// One with a `->` after it.
     Arrow(LeftValue),
     /// `input`, at its place.
     Input(Place),

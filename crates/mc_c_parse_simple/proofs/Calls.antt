@@ -1,4 +1,4 @@
--- What a token does to a call behind its `(`.
+-- What a token does to a call after its `(`.
 use Rattle.std.proofs.Common.{◌≡◌, List, [], ◌∷◌, ◌++◌, ◌⊎◌, inl, refl, codes, IsTrue, ap, ◌∙◌, subst}
 use Rattle.std.proofs.lemmas.List.{map-append}
 use native.Mathlib.Omega.{arith}
@@ -50,7 +50,7 @@ argument_found name before after e {first} {token} step is found h =
     let all : expressions_of after ≡ expressions_of before ++ expression_of e ∷ [] = ap expressions_of is ∙ map-append expression_of before (e ∷ []) in
     call_step_along step (then_finds found) (subst (λ es. IsCallStep (BehindArguments name es) token step) all h)
 
--- no mark of an expression stands behind an argument
+-- no mark of an expression stands after an argument
 pub arguments_end : (name : Name) (es : List Expr) {token : Token} {tokens rest : Tokens} {y : CallTree} → BehindArguments name es (token ∷ tokens) rest y → IsTrue (is_in expression_marks token.text) → ⊥
 arguments_end name es (behind_arguments no_more close) marks = no_mark expression_marks close refl marks
 arguments_end name es (behind_arguments (one_more comma sum more) close) marks = no_mark expression_marks comma refl marks

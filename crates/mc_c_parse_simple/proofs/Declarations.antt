@@ -1,4 +1,4 @@
--- What a token does to a declaration behind its base.
+-- What a token does to a declaration after its base.
 use Rattle.std.proofs.Common.{◌≡◌, ℕ, List, [], ◌∷◌, ◌++◌, ◌⊎◌, inl, inr, refl, codes, IsTrue, Some, None, map, ap, ◌∙◌, subst}
 use Rattle.std.proofs.lemmas.List.{map-append}
 use native.Mathlib.Omega.{arith}
@@ -62,7 +62,7 @@ module _ (aliases : List (List ℕ)) (base : Base) (is : List InitialTree) {toke
   comma_stuck mark name tokens rest d (in_turn (with_value (declarator (star s) n) m r) b) = mark s
   comma_stuck mark name tokens rest d (in_turn (with_value (declarator no_star n) m r) b) = name n
 
-  -- behind a declarator and its value
+  -- after a declarator and its value
   pub initials_comma : IsMark (codes ",") token → Takes [] (BehindInitials aliases base is) (BehindComma aliases base is) token
   initials_comma mark = record { forward = go; backward = back }
     where
@@ -93,7 +93,7 @@ module _ (aliases : List (List ℕ)) (base : Base) (is : List InitialTree) {toke
   initials_assign mark tokens rest d (behind_initials last_initial s) = grind arith
   initials_assign mark tokens rest d (behind_initials (next_initial c i m) s) = grind arith
 
--- behind a declarator
+-- after a declarator
 pub declarator_assign : (aliases : List (List ℕ)) (base : Base) (is : List InitialTree) (d : Declarator) {token : Token} → IsMark (codes "=") token → Takes [] (BehindDeclarator aliases base is d) (InTurn (Rights aliases) (λ r. BehindInitial aliases base is (record { declarator = d; value = Some r }))) token
 declarator_assign aliases base is d mark = takes_along (either_right (initials_assign aliases base (is ++ record { declarator = d; value = None } ∷ []) mark)) (next_takes mark)
 

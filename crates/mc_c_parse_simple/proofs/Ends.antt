@@ -36,18 +36,10 @@ use Rattle.mc_c_parse_simple.specs.Calls.{Sums, BehindArguments, behind_argument
 use Rattle.mc_c_parse_simple.specs.Rights.{InParens, CompletesRightState, CompletesRight}
 use Rattle.mc_c_parse_simple.specs.Simples.{MoreFields, just, changed_first, changed_by, increments, InLeft, InFirst, CompletesSimpleState, CompletesSimple}
 use Rattle.mc_c_parse_simple.specs.Declarations.{BehindInitials, behind_initials, BehindComma, CompletesDeclarationState, CompletesDeclaration}
-
-abbrev somewhere : Place
-somewhere = record { line = 1; column = 1 }
-
-abbrev mark_token : List ℕ → Token
-mark_token mark = record { kind = TokenKind.Mark; text = mark; place = somewhere }
+use Rattle.mc_c_parse_expr.proofs.Ends.{is_mark, mark_token, somewhere}
 
 abbrev word_token : List ℕ → Token
 word_token word = record { kind = TokenKind.Name; text = word; place = somewhere }
-
-is_mark : (mark : List ℕ) → IsMark mark (mark_token mark)
-is_mark mark = record { kind = refl; text = refl }
 
 is_word : (word : List ℕ) → IsWord word (word_token word)
 is_word word = record { kind = refl; text = refl }

@@ -132,7 +132,7 @@ right_sum aliases {token} no_name no_open no_malloc = record { forward = go; bac
     back : (tokens rest : Tokens) (y : Right) → AsExpression Sums (token ∷ tokens) rest y → IsRight aliases y (token ∷ tokens) rest
     back tokens rest y (in_turn s ended) = sum s
 
--- behind a name, `(` begins a call
+-- after a name, `(` begins a call
 pub name_open : (name : Name) {token : Token} → IsMark (codes "(") token → Takes right_marks (BehindRightName name) (AsCall (BehindCallParens name)) token
 name_open name {token} is = either_on go (takes_more (next_takes is))
   where
@@ -143,7 +143,7 @@ name_open name {token} is = either_on go (takes_more (next_takes is))
     go tokens rest y (in_turn (in_turn none (in_turn no_factor (taken m t ts))) ended) = grind arith
     go tokens rest y (in_turn (in_turn none (in_turn no_factor no_term)) ended) = (refl, rw is.text refl)
 
--- behind `(`
+-- after `(`
 pub opened_word : (aliases : List (List ℕ)) (place : Place) {w : List ℕ} {token : Token} → IsWord w token → (w ≡ codes "int") ⊎ ((w ≡ codes "struct") ⊎ (w ≡ codes "malloc")) → SameAt (BehindRightParens aliases place) (AsAllocation (InCast aliases place)) token
 opened_word aliases place is which = either_right (then_stuck (then_stuck (sums_stuck (word_begins_none is which))))
 
@@ -156,7 +156,7 @@ opened_type aliases place is = either_takes (then_moves (then_moves (sums_name i
 pub opened_variable : (aliases : List (List ℕ)) (place : Place) {token : Token} → IsName token → ¬ IsAlias aliases token → Takes [] (BehindRightParens aliases place) (AsExpression (InParens place (BehindName (name_of token)))) token
 opened_variable aliases place {token} is no_alias = takes_along (opened_other aliases place (λ w. name_no_word is w refl) (λ w. name_no_word is w refl) no_alias) (then_moves (then_moves (sums_name is)))
 
--- behind `(` and a type's name
+-- after `(` and a type's name
 name_star : (name : Name) {token : Token} → IsMark (codes "*") token → Takes expression_marks (BehindName name) (BehindTimes name) token
 name_star name {token} is = record { forward = go; backward = back }
   where
@@ -189,7 +189,7 @@ alias_close aliases place name is = either_takes (then_moves (takes_along (then_
 pub alias_other : (aliases : List (List ℕ)) (place : Place) (name : Name) {token : Token} → ¬ IsMark (codes "*") token → ¬ IsMark (codes ")") token → SameAt (BehindParensAlias aliases place name) (AsExpression (InParens place (BehindName name))) token
 alias_other aliases place name not_star not_close = either_left (then_stuck (cast_stuck aliases place (Base.Alias name) not_star not_close))
 
--- behind `(`, a type's name and `*`
+-- after `(`, a type's name and `*`
 times_close : (name : Name) {token : Token} → IsMark (codes ")") token → IsStuckAt (BehindTimes name) token
 times_close name is tokens rest e (in_turn u h) = close_begins_none is (unary_begins u)
 
@@ -238,7 +238,7 @@ module _ (name : Name) {first : Tokens → Tokens → Expr → Type 0} (same : I
   pub times_not_stuck : IsStuckAt first token → ⊥
   times_not_stuck s = s nulls [] (times (named name) (null token.place)) example
 
--- behind a type's name in parentheses
+-- after a type's name in parentheses
 pub enclosed_malloc : (aliases : List (List ℕ)) (place : Place) (name : Name) {token : Token} → IsWord (codes "malloc") token → Takes right_marks (BehindEnclosed aliases place name) (AsAllocation (BehindMalloc aliases (Some (record { place = place; base = Base.Alias name; pointer = None })) token.place)) token
 enclosed_malloc aliases place name {token} is = either_on go (takes_more (then_moves (next_takes is)))
   where

@@ -1,4 +1,4 @@
--- What completes an allocation: `malloc(..)`, perhaps behind a cast.
+-- What completes an allocation: `malloc(..)`, perhaps after a cast.
 use Rattle.std.specs.Prelude.{ℕ, List, [], Option, Some, None, codes}
 use Rattle.mc_base.specs.declared.text.place.Place.{Place}
 use Rattle.mc_base.specs.declared.text.token.Token.{Token}
@@ -19,15 +19,15 @@ use Rattle.mc_c_parse_simple.specs.Sizes.{Sizes, CompletesSize}
 abbrev pub ClosingMalloc : Malloc → Tokens → Tokens → Malloc → Type 0
 ClosingMalloc malloc = Next (IsMark (codes ")")) (λ after. Ended malloc)
 
--- behind a size
+-- after a size
 abbrev pub BehindSize : Option Cast → Place → Size → Tokens → Tokens → Malloc → Type 0
 BehindSize cast place size = ClosingMalloc (record { cast = cast; place = place; size = size })
 
--- behind `malloc`
+-- after `malloc`
 abbrev pub BehindMalloc : List (List ℕ) → Option Cast → Place → Tokens → Tokens → Malloc → Type 0
 BehindMalloc aliases cast place = Next (IsMark (codes "(")) (λ before. InTurn (Sizes aliases) (BehindSize cast place))
 
--- behind a cast
+-- after a cast
 abbrev pub BehindCast : List (List ℕ) → Cast → Tokens → Tokens → Malloc → Type 0
 BehindCast aliases cast = Next (IsWord (codes "malloc")) (λ word. BehindMalloc aliases (Some cast) word.place)
 
@@ -35,14 +35,14 @@ BehindCast aliases cast = Next (IsWord (codes "malloc")) (λ word. BehindMalloc 
 abbrev pub ClosingCast : List (List ℕ) → Cast → Tokens → Tokens → Malloc → Type 0
 ClosingCast aliases cast = Next (IsMark (codes ")")) (λ after. BehindCast aliases cast)
 
--- behind the base of a cast
+-- after the base of a cast
 abbrev pub BehindCastBase : List (List ℕ) → Place → Base → Tokens → Tokens → Malloc → Type 0
 BehindCastBase aliases place base = Either
     (Next (IsMark (codes "*")) (λ star. ClosingCast aliases
     (record { place = place; base = base; pointer = Some star.place })))
     (ClosingCast aliases (record { place = place; base = base; pointer = None }))
 
--- behind the `(` of a cast
+-- after the `(` of a cast
 abbrev pub InCast : List (List ℕ) → Place → Tokens → Tokens → Malloc → Type 0
 InCast aliases place = InTurn (Bases aliases) (BehindCastBase aliases place)
 

@@ -14,7 +14,7 @@ use Rattle.mc_c_parse_simple.specs.Phrases.{Ended, Next}
 abbrev pub Bases : List (List ℕ) → Tokens → Tokens → Base → Type 0
 Bases aliases tokens rest base = IsBase aliases base tokens rest
 
--- the name behind `struct`
+-- the name after `struct`
 abbrev pub BehindStruct : Place → Tokens → Tokens → Base → Type 0
 BehindStruct place = Next IsName (λ name. Ended (Base.Struct place (name_of name)))
 

@@ -1,4 +1,4 @@
--- What completes a call behind its `(`.
+-- What completes a call after its `(`.
 use Rattle.std.specs.Prelude.{List, [], ◌∷◌, ◌++◌, codes}
 use Rattle.mc_base.specs.declared.text.token.Token.{Token}
 use Rattle.mc_c_syntax.specs.declared.ast.trees.Name.{Name}
@@ -18,13 +18,13 @@ use Rattle.mc_c_parse_simple.specs.Phrases.{Ended, Next, Either}
 abbrev pub Sums : Tokens → Tokens → Expr → Type 0
 Sums tokens rest e = IsSum e tokens rest
 
--- behind an argument, with those up to it
+-- after an argument, with those up to it
 pub data BehindArguments (name : Name) (es : List Expr) : Tokens → Tokens → CallTree → Type 0 where
   behind_arguments : {all : List Expr} {after : Token} {tokens rest : Tokens}
       → MoreExpressions es tokens all (after ∷ rest) → IsMark (codes ")") after
       → BehindArguments name es tokens rest (record { function = name; arguments = all })
 
--- behind one argument more
+-- after one argument more
 abbrev pub BehindArgument : Name → List Expr → Expr → Tokens → Tokens → CallTree → Type 0
 BehindArgument name es e = BehindArguments name (es ++ e ∷ [])
 
@@ -33,7 +33,7 @@ abbrev pub FirstArgument : Name → List Expr → Tokens → Tokens → CallTree
 FirstArgument name es = Either (Next (IsMark (codes ")"))
     (λ after. Ended (record { function = name; arguments = es }))) (InTurn Sums (BehindArgument name es))
 
--- behind the `(` of a call
+-- after the `(` of a call
 abbrev pub BehindCallParens : Name → Tokens → Tokens → CallTree → Type 0
 BehindCallParens name = FirstArgument name []
 

@@ -1,4 +1,4 @@
--- What completes a declaration behind its base.
+-- What completes a declaration after its base.
 use Rattle.std.specs.Prelude.{◌≡◌, ℕ, List, [], ◌∷◌, ◌++◌, Some, None, codes, map}
 use Rattle.mc_base.specs.declared.text.token.Token.{Token}
 use Rattle.mc_c_syntax.specs.declared.ast.trees.Base.{Base}
@@ -16,7 +16,7 @@ use Rattle.mc_c_parse_expr.specs.Turns.{InTurn}
 use Rattle.mc_c_parse_simple.specs.Phrases.{Next, Either}
 use Rattle.mc_c_parse_simple.specs.Rights.{Rights, CompletesRight}
 
--- behind a declarator and its value, with those up to it
+-- after a declarator and its value, with those up to it
 pub data BehindInitials (aliases : List (List ℕ)) (base : Base) (is : List InitialTree) : Tokens → Tokens → DeclarationTree → Type 0 where
   behind_initials : {all : List InitialTree} {semicolon : Token} {tokens rest : Tokens}
       → MoreInitials aliases is tokens all (semicolon ∷ rest) → IsMark (codes ";") semicolon
@@ -26,19 +26,19 @@ pub data BehindInitials (aliases : List (List ℕ)) (base : Base) (is : List Ini
 abbrev pub Initials : List (List ℕ) → Tokens → Tokens → InitialTree → Type 0
 Initials aliases tokens rest i = IsInitial aliases i tokens rest
 
--- behind one more
+-- after one more
 abbrev pub BehindInitial : List (List ℕ) → Base → List InitialTree → InitialTree → Tokens → Tokens → DeclarationTree → Type 0
 BehindInitial aliases base is i = BehindInitials aliases base (is ++ i ∷ [])
 
--- behind a base, or a `,`
+-- after a base, or a `,`
 abbrev pub BehindComma : List (List ℕ) → Base → List InitialTree → Tokens → Tokens → DeclarationTree → Type 0
 BehindComma aliases base is = InTurn (Initials aliases) (BehindInitial aliases base is)
 
--- behind its base
+-- after its base
 abbrev pub BehindBase : List (List ℕ) → Base → Tokens → Tokens → DeclarationTree → Type 0
 BehindBase aliases base = BehindComma aliases base []
 
--- behind a declarator's name
+-- after a declarator's name
 abbrev pub BehindDeclarator : List (List ℕ) → Base → List InitialTree → Declarator → Tokens → Tokens → DeclarationTree → Type 0
 BehindDeclarator aliases base is d = Either (BehindInitial aliases base is (record {
   declarator = d;
@@ -75,7 +75,7 @@ IsDeclarationMove aliases now token (DeclarationMove.Taken reader) = Takes [] no
 IsDeclarationMove aliases now token (DeclarationMove.Closed d) = Closes now token (declaration_of d)
 IsDeclarationMove aliases now token DeclarationMove.Stuck = IsStuckAt now token
 
--- what a step of the reader says, of what completes it now and behind the token
+-- what a step of the reader says, of what completes it now and after the token
 abbrev pub IsDeclarationStep : (Tokens → Tokens → DeclarationTree → Type 0)
     → (Tokens → Tokens → DeclarationTree → Type 0) → Token → DeclarationStep → Type 0
 IsDeclarationStep now behind token DeclarationStep.Taken = Takes [] now behind token

@@ -50,29 +50,29 @@ InParens place inner = InTurn inner (ClosingParens place)
 abbrev pub named : Name → Expr
 named name = value (record { name = name; fields = [] })
 
--- behind a name and a `*`
+-- after a name and a `*`
 abbrev pub BehindTimes : Name → Tokens → Tokens → Expr → Type 0
 BehindTimes name = InTurn (λ tokens rest e. IsUnary e tokens rest) (λ e. BehindOperand (times (named name) e))
 
--- behind a name with which a right side begins
+-- after a name with which a right side begins
 abbrev pub BehindRightName : Name → Tokens → Tokens → Right → Type 0
 BehindRightName name = Either (AsExpression (BehindName name)) (Next (IsMark (codes "(")) (λ before. AsCall (BehindCallParens name)))
 
--- behind a `(` with which a right side begins
+-- after a `(` with which a right side begins
 abbrev pub BehindRightParens : List (List ℕ) → Place → Tokens → Tokens → Right → Type 0
 BehindRightParens aliases place = Either (AsExpression (InParens place Sums)) (AsAllocation (InCast aliases place))
 
--- behind a `(` and the name of a type
+-- after a `(` and the name of a type
 abbrev pub BehindParensAlias : List (List ℕ) → Place → Name → Tokens → Tokens → Right → Type 0
 BehindParensAlias aliases place name = Either (AsExpression (InParens place (BehindName name)))
     (AsAllocation (BehindCastBase aliases place (Base.Alias name)))
 
--- behind a `(`, the name of a type and a `*`
+-- after a `(`, the name of a type and a `*`
 abbrev pub BehindParensStar : List (List ℕ) → Place → Name → Place → Tokens → Tokens → Right → Type 0
 BehindParensStar aliases place name star = Either (AsExpression (InParens place (BehindTimes name)))
     (AsAllocation (ClosingCast aliases (record { place = place; base = Base.Alias name; pointer = Some star })))
 
--- behind the name of a type in parentheses
+-- after the name of a type in parentheses
 abbrev pub BehindEnclosed : List (List ℕ) → Place → Name → Tokens → Tokens → Right → Type 0
 BehindEnclosed aliases place name = Either (AsExpression (BehindOperand (parens place (named name))))
     (AsAllocation (BehindCast aliases (record { place = place; base = Base.Alias name; pointer = None })))
@@ -117,7 +117,7 @@ IsRightMove aliases now token (RightMove.Taken reader) = Takes right_marks now (
 IsRightMove aliases now token (RightMove.Found right) = Finds now token (right_of right)
 IsRightMove aliases now token RightMove.Stuck = IsStuckAt now token
 
--- what a step of the reader says, of what completes it now and behind the token
+-- what a step of the reader says, of what completes it now and after the token
 abbrev pub IsRightStep : (Tokens → Tokens → Right → Type 0) → (Tokens → Tokens → Right → Type 0) → Token → RightStep → Type 0
 IsRightStep now behind token RightStep.Taken = Takes right_marks now behind token
 IsRightStep now behind token (RightStep.Found right) = Finds now token (right_of right)

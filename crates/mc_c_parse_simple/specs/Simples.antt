@@ -37,7 +37,7 @@ changed_by Change.Decrement l e = subtract l e
 abbrev pub Simples : List (List ℕ) → Tokens → Tokens → SimpleTree → Type 0
 Simples aliases tokens rest s = IsSimple aliases s tokens rest
 
--- the fields behind a variable or field
+-- the fields after a variable or field
 abbrev pub MoreFields : Left → Tokens → Tokens → Left → Type 0
 MoreFields l tokens rest all = Fields l tokens all rest
 
@@ -49,7 +49,7 @@ with_field l name = record { name = l.name; fields = l.fields ++ name ∷ [] }
 abbrev pub just : Name → Left
 just name = record { name = name; fields = [] }
 
--- behind a variable or field
+-- after a variable or field
 pub data BehindLeft (aliases : List (List ℕ)) (l : Left) : Tokens → Tokens → SimpleTree → Type 0 where
   assigns : {r : Right} {mark : Token} {tokens rest : Tokens} → IsMark (codes "=") mark
       → IsRight aliases r tokens rest → BehindLeft aliases l (mark ∷ tokens) rest (assign l r)
@@ -60,16 +60,16 @@ pub data BehindLeft (aliases : List (List ℕ)) (l : Left) : Tokens → Tokens �
   increments : {mark : Token} {tokens : Tokens} → IsMark (codes "++") mark → BehindLeft aliases l (mark ∷ tokens) tokens (increment l)
   decrements : {mark : Token} {tokens : Tokens} → IsMark (codes "--") mark → BehindLeft aliases l (mark ∷ tokens) tokens (decrement l)
 
--- behind a name, or a field of it, with which a statement begins
+-- after a name, or a field of it, with which a statement begins
 abbrev pub InLeft : List (List ℕ) → Left → Tokens → Tokens → SimpleTree → Type 0
 InLeft aliases l = InTurn (MoreFields l) (BehindLeft aliases)
 
--- behind a name with which a statement begins
+-- after a name with which a statement begins
 abbrev pub BehindSimpleName : List (List ℕ) → Name → Tokens → Tokens → SimpleTree → Type 0
 BehindSimpleName aliases name = Either (InLeft aliases (just name))
     (Next (IsMark (codes "(")) (λ before. InTurn (BehindCallParens name) (λ c. Ended (call c))))
 
--- behind `++x` or `--x`, or a field of x
+-- after `++x` or `--x`, or a field of x
 abbrev pub InFirst : Change → Place → Left → Tokens → Tokens → SimpleTree → Type 0
 InFirst change place l = InTurn (MoreFields l) (λ all. Ended (changed_first change place all))
 
@@ -115,7 +115,7 @@ IsSimpleMove aliases now token (SimpleMove.Taken reader) = Takes simple_marks no
 IsSimpleMove aliases now token (SimpleMove.Found simple) = Finds now token (simple_of simple)
 IsSimpleMove aliases now token SimpleMove.Stuck = IsStuckAt now token
 
--- what a step of the reader says, of what completes it now and behind the token
+-- what a step of the reader says, of what completes it now and after the token
 abbrev pub IsSimpleStep : (Tokens → Tokens → SimpleTree → Type 0) → (Tokens → Tokens → SimpleTree → Type 0) → Token → SimpleStep → Type 0
 IsSimpleStep now behind token SimpleStep.Taken = Takes simple_marks now behind token
 IsSimpleStep now behind token (SimpleStep.Found simple) = Finds now token (simple_of simple)

@@ -17,27 +17,27 @@ use Rattle.mc_c_parse_simple.specs.Bases.{Bases, CompletesBase}
 abbrev pub Sizes : List (List ℕ) → Tokens → Tokens → Size → Type 0
 Sizes aliases tokens rest size = IsSize aliases size tokens rest
 
--- the `)` behind a size
+-- the `)` after a size
 abbrev pub ClosingSize : Size → Tokens → Tokens → Size → Type 0
 ClosingSize size = Next (IsMark (codes ")")) (λ after. Ended size)
 
--- behind `sizeof (int` and the like
+-- after `sizeof (int` and the like
 abbrev pub BehindType : Place → Base → Tokens → Tokens → Size → Type 0
 BehindType place base = ClosingSize (Size.OfType place base)
 
--- behind `sizeof (*`
+-- after `sizeof (*`
 abbrev pub BehindParensStar : Place → Tokens → Tokens → Size → Type 0
 BehindParensStar place = Next IsName (λ name. ClosingSize (Size.OfParens place (name_of name)))
 
--- behind `sizeof *`
+-- after `sizeof *`
 abbrev pub BehindStar : Place → Tokens → Tokens → Size → Type 0
 BehindStar place = Next IsName (λ name. Ended (Size.OfValue place (name_of name)))
 
--- behind `sizeof (`
+-- after `sizeof (`
 abbrev pub BehindParens : List (List ℕ) → Place → Tokens → Tokens → Size → Type 0
 BehindParens aliases place = Either (InTurn (Bases aliases) (BehindType place)) (Next (IsMark (codes "*")) (λ star. BehindParensStar place))
 
--- behind `sizeof`
+-- after `sizeof`
 abbrev pub BehindSizeof : List (List ℕ) → Place → Tokens → Tokens → Size → Type 0
 BehindSizeof aliases place = Either (Next (IsMark (codes "(")) (λ before. BehindParens aliases place))
     (Next (IsMark (codes "*")) (λ star. BehindStar place))

@@ -1,4 +1,4 @@
-// Reads `malloc(..)`, perhaps behind a cast.
+// Reads `malloc(..)`, perhaps after a cast.
 ghost use Rattle.std.specs.Prelude.{◌≡◌, ℕ, List, IfOk};
 ghost use Rattle.mc_c_syntax.specs.Ast.Classes.{IsClass};
 ghost use Rattle.mc_c_syntax.specs.Ast.Names.{is_in};
@@ -13,17 +13,17 @@ use mc_base::text::{Place, Token};
 use mc_c_syntax::ast::{Base, Cast, Class, Malloc};
 use std::alloc::{AllocError, Global};
 
-/// Reads `malloc(..)`, perhaps behind a cast.
+/// Reads `malloc(..)`, perhaps after a cast.
 pub enum AllocationReader {
-    /// In the base behind the `(` of a cast.
+    /// In the base after the `(` of a cast.
     Base(Place, BaseReader),
-    /// Behind the base of a cast.
+    /// After the base of a cast.
     CastBase(Place, Base),
     /// At the `)` of a cast.
     CastEnd(Cast),
-    /// Behind a cast.
+    /// After a cast.
     Cast(Cast),
-    /// Behind `malloc`.
+    /// After `malloc`.
     Malloc(Option<Cast>, Place),
     /// In the size.
     Size(Option<Cast>, Place, SizeReader),
@@ -31,7 +31,7 @@ pub enum AllocationReader {
     Close(Malloc),
 }
 
-/// Lets go of what is read. What holds a reader calls this.
+/// Drops what is read. What holds a reader calls this.
 impl Drop for AllocationReader {
     fn drop(self) {
         match self {

@@ -14,7 +14,7 @@ use std::alloc::{AllocError, Global};
 #[derive(Drop)]
 pub enum BaseReader {
     Start,
-    /// Behind `struct`, which is here.
+    /// After `struct`, which is here.
     Struct(Place),
 }
 

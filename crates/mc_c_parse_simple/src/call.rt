@@ -1,4 +1,4 @@
-// Reads a call behind its `(`.
+// Reads a call after its `(`.
 ghost use Rattle.std.specs.Prelude.{◌≡◌, IfOk};
 ghost use Rattle.mc_c_syntax.specs.Ast.Classes.{IsClass};
 ghost use Rattle.mc_c_syntax.specs.Ast.Readers.{IsSame, CanEnd};
@@ -14,7 +14,7 @@ use mc_c_parse_expr::{ExpressionReader, ExpressionStep, expressions_can_end};
 use mc_c_syntax::ast::{Call, Class, Expression, Name};
 use std::alloc::{AllocError, Global};
 
-/// Reads a call behind its `(`.
+/// Reads a call after its `(`.
 pub struct CallReader {
     alloc: Global,
     function: Name,
@@ -22,7 +22,7 @@ pub struct CallReader {
     state: CallState,
 }
 
-/// Lets go of what is read. What holds a reader calls this.
+/// Drops what is read. What holds a reader calls this.
 impl Drop for CallReader {
     fn drop(self) {
         let CallReader {
@@ -54,7 +54,7 @@ pub enum CallStep {
 }
 
 impl CallReader {
-    /// Behind the `(`.
+    /// After the `(`.
     pub fn new(alloc: Global, function: Name) -> CallReader
         ensures { IsSame (CompletesCall result) (BehindCallParens function) }
     {

@@ -1,4 +1,4 @@
-// Reads a declaration behind its base.
+// Reads a declaration after its base.
 ghost use Rattle.std.specs.Prelude.{◌≡◌, ℕ, List, Some, IfOk, map};
 ghost use Rattle.mc_c_syntax.specs.Ast.Classes.{IsClass};
 ghost use Rattle.mc_c_syntax.specs.Ast.Names.{is_in, IsName, name_of};
@@ -20,7 +20,7 @@ use mc_c_syntax::ast::{Base, Class, Declaration, Declarator, Initial, RightSide,
 use std::alloc::{AllocError, Global};
 use std::mem;
 
-/// Reads a declaration behind its base, up to its `;`.
+/// Reads a declaration after its base, up to its `;`.
 pub struct DeclarationReader {
     alloc: Global,
     base: Base,
@@ -28,7 +28,7 @@ pub struct DeclarationReader {
     state: DeclarationState,
 }
 
-/// Lets go of what is read. What holds a reader calls this.
+/// Drops what is read. What holds a reader calls this.
 impl Drop for DeclarationReader {
     fn drop(self) {
         let DeclarationReader {
@@ -47,9 +47,9 @@ impl Drop for DeclarationReader {
 enum DeclarationState {
     /// At a declarator.
     Start,
-    /// Behind the `*` of one.
+    /// After the `*` of one.
     Pointer(Place),
-    /// Behind a declarator.
+    /// After a declarator.
     Named(Declarator),
     /// In the value of one.
     Value(Declarator, RightReader),
@@ -64,7 +64,7 @@ pub enum DeclarationStep {
     Stuck,
 }
 
-/// The same, with the reader behind the token.
+/// The same, with the reader after the token.
 #[derive(Drop)]
 enum DeclarationMove {
     Taken(DeclarationReader),
@@ -74,7 +74,7 @@ enum DeclarationMove {
 }
 
 impl DeclarationReader {
-    /// Behind the base.
+    /// After the base.
     pub fn behind_base(alloc: Global, base: Base) -> DeclarationReader
         ensures { (aliases : List (List ℕ)) → IsSame (CompletesDeclaration aliases result) (BehindBase aliases base) }
     {
@@ -135,7 +135,7 @@ impl DeclarationReader {
         mem::replace(self, fresh)
     }
 
-    /// Behind the value of the declarator.
+    /// After the value of the declarator.
     fn with_value(
         self,
         right: RightSide,

@@ -31,7 +31,7 @@ pub struct RightReader {
     state: RightState,
 }
 
-/// Lets go of what is read. What holds a reader calls this.
+/// Drops what is read. What holds a reader calls this.
 impl Drop for RightReader {
     fn drop(self) {
         let RightReader { state, alloc: _ } = self;
@@ -43,15 +43,15 @@ impl Drop for RightReader {
 #[derive(Drop)]
 enum RightState {
     Start,
-    /// Behind a first name.
+    /// After a first name.
     Named(Name),
-    /// Behind a first `(`.
+    /// After a first `(`.
     Opened(Place),
-    /// Behind a first `(` and the name of a type.
+    /// After a first `(` and the name of a type.
     OpenedAlias(Place, Name),
-    /// Behind a first `(`, the name of a type and a `*`.
+    /// After a first `(`, the name of a type and a `*`.
     OpenedStar(Place, Name, Place),
-    /// Behind the name of a type in parentheses.
+    /// After the name of a type in parentheses.
     Enclosed(Place, Name),
     /// In an expression in parentheses, with which the right side begins.
     Parens(Place, Box<ExpressionReader>),
@@ -69,7 +69,7 @@ pub enum RightStep {
     Stuck,
 }
 
-/// The same, with the reader behind the token.
+/// The same, with the reader after the token.
 #[derive(Drop)]
 enum RightMove {
     Taken(RightReader),
@@ -284,8 +284,7 @@ fn in_cast(
         → IfOk result (IsRightMove aliases (AsAllocation (InCast aliases place)) token.now) }
 {
     let reader = AllocationReader::Base(place, BaseReader::Start);
-    let step = in_allocation(alloc, reader, token, class, alias)?;
-    Ok(step)
+    in_allocation(alloc, reader, token, class, alias)
 }
 
 fn opened_alias(
@@ -348,7 +347,7 @@ fn opened_star(
     }
 }
 
-// A reader of what is left of an expression behind a name and a `*`.
+// A reader of what is left of an expression after a name and a `*`.
 fn behind_times(alloc: Global, name: Name, star: Place) -> Result<ExpressionReader, AllocError>
     ensures { IfOk result (λ reader. (place : Place)
         → IsSame (InParens place (CompletesExpression reader)) (InParens place (BehindTimes name))) }

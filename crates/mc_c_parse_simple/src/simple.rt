@@ -28,7 +28,7 @@ pub struct SimpleReader {
     state: SimpleState,
 }
 
-/// Lets go of what is read. What holds a reader calls this.
+/// Drops what is read. What holds a reader calls this.
 impl Drop for SimpleReader {
     fn drop(self) {
         let SimpleReader { state, alloc: _ } = self;
@@ -46,21 +46,21 @@ enum Change {
 #[derive(Drop)]
 enum SimpleState {
     Start,
-    /// Behind a first `++` or `--`.
+    /// After a first `++` or `--`.
     First(Change, Place),
-    /// Behind a variable or field behind a first `++` or `--`.
+    /// After a variable or field after a first `++` or `--`.
     FirstLeft(Change, Place, LeftValue),
-    /// Behind the `->` of such a one.
+    /// After the `->` of such a one.
     FirstArrow(Change, Place, LeftValue),
-    /// Behind a first name.
+    /// After a first name.
     Named(Name),
-    /// Behind a field.
+    /// After a field.
     Left(LeftValue),
-    /// Behind the `->` of a variable or field.
+    /// After the `->` of a variable or field.
     Arrow(LeftValue),
-    /// Behind `=`.
+    /// After `=`.
     Assign(LeftValue, RightReader),
-    /// Behind `+=` or `-=`.
+    /// After `+=` or `-=`.
     ChangeBy(Change, LeftValue, Box<ExpressionReader>),
     Call(CallReader),
     Done(Simple),
@@ -74,7 +74,7 @@ pub enum SimpleStep {
     Stuck,
 }
 
-/// The same, with the reader behind the token.
+/// The same, with the reader after the token.
 #[derive(Drop)]
 enum SimpleMove {
     Taken(SimpleReader),
@@ -92,7 +92,7 @@ impl SimpleReader {
         }
     }
 
-    /// Behind a name with which the statement begins.
+    /// After a name with which the statement begins.
     pub fn behind_name(alloc: Global, name: Name) -> SimpleReader
         ensures { (aliases : List (List ℕ)) (token : Token) → IsName token → name_of token ≡ name
             → IsSame (CompletesSimple aliases result) (λ tokens rest s. IsSimple aliases s (token ∷ tokens) rest) }

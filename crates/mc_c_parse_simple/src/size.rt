@@ -15,15 +15,15 @@ use std::alloc::{AllocError, Global};
 #[derive(Drop)]
 pub enum SizeReader {
     Start,
-    /// Behind `sizeof`.
+    /// After `sizeof`.
     Sizeof(Place),
-    /// Behind `sizeof (`.
+    /// After `sizeof (`.
     Parens(Place),
-    /// In the base behind `sizeof (`.
+    /// In the base after `sizeof (`.
     Base(Place, BaseReader),
-    /// Behind `sizeof (*`.
+    /// After `sizeof (*`.
     ParensStar(Place),
-    /// Behind `sizeof *`.
+    /// After `sizeof *`.
     Star(Place),
     /// At the `)`.
     Close(Size),

@@ -4,4 +4,4 @@ pub mod Names
 pub mod Classes
 pub mod Grammar
 pub mod Readers
-pub mod Weights
+pub mod Sizes

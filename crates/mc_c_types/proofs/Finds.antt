@@ -43,7 +43,7 @@ find-none p f xs e = rw (find-at p f xs) (ap (λ place. option_and_then (λ i. o
 pub find-some : {X Y : Type 0} (p : Y → Bool) (f : X → Y) (xs : List X) (i : ℕ) (o : Option X) → Some i ≡ position (λ x. p (f x)) xs → o ≡ slice_get xs i → option_map f o ≡ find p (map f xs)
 find-some p f xs i o e is = rw is (rw (find-at p f xs) (ap (λ place. option_and_then (λ i. option_map f (slice_get xs i)) place) e))
 
--- what is behind a reference
+-- what is after a reference
 pub option_map-copied : {X Y : Type 0} (f : X → Y) (o : Option (Bor X)) → option_map f (option_copied o) ≡ option_map (λ x. f x.now) o
 option_map-copied f None = refl
 option_map-copied f (Some x) = refl

@@ -1,4 +1,4 @@
--- Which fault is told of several.
+-- Which fault is known of several.
 use Rattle.std.proofs.Common.{◌≡◌, ℕ, List, [], ◌∷◌, ◌++◌, ◌<◌, ◌≤◌, refl, ap, arith, Bool, true, false, ◌⊎◌}
 use Rattle.std.proofs.Common.{append_assoc}
 use Rattle.std.proofs.Common.{inl, inr, sym, length, suc, zero}
@@ -89,7 +89,7 @@ is_told-antisym f g p q =
     (tell-says _ _ _ _ _ _ p)
     (tell-says _ _ _ _ _ _ q))
 
--- ---- the one that is told of several
+-- ---- the one that is known of several
 pub told_of-append : (told : Option Fault) (xs ys : List Fault) → told_of told (xs ++ ys) ≡ told_of (told_of told xs) ys
 told_of-append told [] ys = refl
 told_of-append None (x ∷ xs) ys = told_of-append (Some x) xs ys
@@ -112,7 +112,7 @@ contains_none x h = omega (arith, h.1)
 pub contains_nothing : {X : Type 0} (xs : List X) (x : X) → xs ≡ [] → Contains xs x → ⊥
 contains_nothing xs x e h = contains_none x (rw e at h)
 
--- ---- the one that is told of one and these
+-- ---- the one that is known of one and these
 pub record IsTold (told : Fault) (faults : List Fault) (f : Fault) : Type 0 where
   pub is_one : (f ≡ told) ⊎ Contains faults f
   pub before_it : is_told f told ≡ true
@@ -142,7 +142,7 @@ told_of-is told f [] e =
     }
 told_of-is told f (x ∷ xs) e = told-step told x f xs (is_told told x) refl (told_of-is (cond (is_told told x) told x) f xs e)
 
--- one is told where there is one
+-- one is known where there is one
 pub told_of-some : (told : Fault) (xs : List Fault) → (f : Fault) × (told_of (Some told) xs ≡ Some f)
 told_of-some told [] = (told, refl)
 told_of-some told (x ∷ xs) = told_of-some (cond (is_told told x) told x) xs

@@ -62,14 +62,14 @@ abbrev pub variable_faults : List Variable → Name → List Fault
 variable_faults vs name = unless (is_some (type_in vs name.text)) Unknown name.place
 
 -- ---- declarators
--- what a base means is known; behind it a `*` needs a struct that is defined
+-- what a base means is known; after it a `*` needs a struct that is defined
 abbrev pub is_known : Tables → Base → Option Place → Bool
 is_known t (Base.Int p) star = true
 is_known t (Base.Struct p name) star = is_none star || is_some (struct_number t.structs name.text)
 is_known t (Base.Alias name) None = is_some (alias_in t.aliases name.text)
 is_known t (Base.Alias name) (Some star) = is_some (alias_in t.aliases name.text) && not (is_undefined (meaning_of t (Base.Alias name)))
 
--- what a base names is known: a tag behind a `*`, a typedef
+-- what a base names is known: a tag after a `*`, a typedef
 abbrev pub base_faults : Tables → Base → Option Place → List Fault
 base_faults t (Base.Int p) star = []
 base_faults t (Base.Struct p name) star = unless (is_known t (Base.Struct p name) star) Unknown name.place
@@ -88,13 +88,13 @@ abbrev pub declarator_faults : Tables → Base → Declarator → List Fault
 declarator_faults t base d = type_faults t base d.pointer (declarator_place d)
 
 -- ---- expressions
--- the field behind a pointer; without a fault there is one
+-- the field after a pointer; without a fault there is one
 abbrev pub field_in : Tables → VariableType → List ℕ → Option VariableType
 field_in t Int name = None
 field_in t (Pointer s) name = option_and_then (λ tree. type_in (fields_of t tree) name) (slice_get t.structs s.0)
 field_in t Anything name = Some Anything
 
--- the type behind all these fields
+-- the type after all these fields
 abbrev pub behind_fields : Tables → VariableType → List Name → VariableType
 behind_fields t type [] = type
 behind_fields t type (field ∷ fields) = behind_fields t (unwrap_or (field_in t type field.text) Anything) fields
@@ -110,11 +110,11 @@ field_faults t type (field ∷ fields) =
 abbrev pub variable_type : List Variable → Name → VariableType
 variable_type vs name = unwrap_or (type_in vs name.text) Anything
 
--- the type of a variable, or of the field behind it
+-- the type of a variable, or of the field after it
 abbrev pub left_type : Tables → List Variable → Left → VariableType
 left_type t vs l = behind_fields t (variable_type vs l.name) l.fields
 
--- a variable is visible, and each field behind it is one of its struct
+-- a variable is visible, and each field after it is one of its struct
 abbrev pub left_faults : Tables → List Variable → Left → List Fault
 left_faults t vs l = variable_faults vs l.name ++ field_faults t (variable_type vs l.name) l.fields
 

@@ -1,4 +1,4 @@
--- The fault that is told of several.
+-- The fault that is known of several.
 use Rattle.std.specs.Prelude.{ℕ, Bool, ◌==◌, ◌&&◌, ◌||◌, nat_lt, nat_le, List, [], ◌∷◌, Option, Some, None, cond}
 use Rattle.mc_base.specs.declared.text.place.Place.{Place}
 use Rattle.mc_c_types.specs.declared.faults.Fault.{Fault}
@@ -15,7 +15,7 @@ number_of FaultName.NoEntry = 5
 number_of FaultName.BadSizeof = 6
 number_of FaultName.Arity = 7
 
--- the first is told rather than the second: it stands before it in the text, or at the same place with a number that is not greater
+-- the first is known rather than the second: it stands before it in the text, or at the same place with a number that is not greater
 abbrev pub is_told : Fault → Fault → Bool
 is_told f g =
     nat_lt f.place.line g.place.line ||
@@ -23,7 +23,7 @@ is_told f g =
     (nat_lt f.place.column g.place.column
     || (f.place.column == g.place.column && nat_le (number_of f.name) (number_of g.name))))
 
--- the one that is told of one, if there is one, and these
+-- the one that is known of one, if there is one, and these
 abbrev pub told_of : Option Fault → List Fault → Option Fault
 told_of told [] = told
 told_of None (fault ∷ faults) = told_of (Some fault) faults

@@ -21,11 +21,11 @@ visible s = s.heads ++ s.own ++ s.outer
 abbrev pub inside : Scope → Scope
 inside s = record { heads = []; own = []; outer = visible s }
 
--- behind a declarator
+-- after a declarator
 abbrev pub declare : Scope → Variable → Scope
 declare s v = record { heads = s.heads; own = v ∷ s.own; outer = s.outer }
 
--- behind a declaration
+-- after a declaration
 abbrev pub behind_items : Tables → Base → Scope → List InitialTree → Scope
 behind_items t base s [] = s
 behind_items t base s (item ∷ items) = behind_items t base (declare s (variable_of t base item.declarator)) items
@@ -39,7 +39,7 @@ behind_start t s nothing = s
 behind_start t s (declares d) = record { heads = (behind_declaration t (inside s) d).own ++ s.heads; own = s.own; outer = s.outer }
 behind_start t s (performs x) = s
 
--- behind a statement: a declaration that stands without braces belongs to the block around
+-- after a statement: a declaration that stands without braces belongs to the block around
 abbrev pub behind : Tables → Scope → Stmt → Scope
 behind t s (declaration d) = behind_declaration t s d
 behind t s (block p ss) = s

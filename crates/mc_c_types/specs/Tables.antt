@@ -83,7 +83,7 @@ base_meaning structs aliases (Base.Int p) = BaseType.Typed Int
 base_meaning structs aliases (Base.Struct p name) = struct_meaning (struct_number structs name.text)
 base_meaning structs aliases (Base.Alias name) = unwrap_or (alias_in aliases name.text) (BaseType.Typed Anything)
 
--- the type of a name that is declared with a base that means this, and perhaps behind a `*`
+-- the type of a name that is declared with a base that means this, and perhaps after a `*`
 abbrev pub declared_type : BaseType → Option Place → VariableType
 declared_type (BaseType.Typed type) None = type
 declared_type (BaseType.Typed type) (Some star) = Anything
@@ -103,7 +103,7 @@ abbrev pub aliased_meaning : List StructTree → List Alias → AliasedTree → 
 aliased_meaning structs aliases (of_base base) = base_meaning structs aliases base
 aliased_meaning structs aliases (of_struct s) = struct_meaning (struct_number structs s.name.text)
 
--- the typedefs behind an item: those before it, and its own
+-- the typedefs after an item: those before it, and its own
 abbrev pub aliases_behind : List StructTree → List Alias → ItemTree → List Alias
 aliases_behind structs aliases (structure s) = aliases
 aliases_behind structs aliases (typedef t) =

@@ -54,7 +54,7 @@ pub record IsWellTyped (unit : UnitTree) (entry : List ℕ) : Type 0 where
   pub no_recursion : (fault : Fault) → ¬ IsRecursion unit fault
   pub entered : HasEntry unit entry
 
--- the fault that is told
+-- the fault that is known
 pub record IsFirstFault (unit : UnitTree) (entry : List ℕ) (fault : Fault) : Type 0 where
   pub is_one : HasFault unit entry fault
   pub first : (other : Fault) → HasFault unit entry other → IsTrue (is_told fault other)

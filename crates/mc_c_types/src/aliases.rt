@@ -16,7 +16,7 @@ pub struct Aliases<'a> {
     names: Names<'a>,
 }
 
-/// Lets go of its parts. What holds one calls this.
+/// Drops its parts. What holds one calls this.
 impl Drop for Aliases<'_> {
     fn drop(self) {
         let Aliases { meanings, names } = self;

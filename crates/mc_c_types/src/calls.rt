@@ -305,13 +305,9 @@ impl<'s, 'a> VisibleNames<'s, 'a> {
     {
         match right {
             RightSide::Expression(expression) => {
-                self.check_value(alloc, told, wanted, expression)?;
-                Ok(())
+                self.check_value(alloc, told, wanted, expression)
             }
-            RightSide::Call(call) => {
-                self.check_result(alloc, told, wanted, call)?;
-                Ok(())
-            }
+            RightSide::Call(call) => self.check_result(alloc, told, wanted, call),
             RightSide::Malloc(malloc) => {
                 self.check_malloc(told, wanted, malloc);
                 Ok(())

@@ -154,6 +154,5 @@ fn keep_both<'c>(
     ensures { OnOk result (stack.new ≡ left.entry ∷ right.entry ∷ stack.old) }
 {
     stack.push(right)?;
-    stack.push(left)?;
-    Ok(())
+    stack.push(left)
 }

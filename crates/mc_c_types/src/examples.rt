@@ -27,14 +27,14 @@ pub fn examples_of_types()
     ensures size { IsFirstFault wrong_size (codes "main") (fault BadSizeof 2 35) }
 {}
 
-/// Calls and loops. Of two faults at one place the one with the least number is told.
+/// Calls and loops. Of two faults at one place the one with the least number is known.
 pub fn examples_of_calls()
     ensures arguments { IsFirstFault too_few_arguments (codes "main") (fault Arity 2 21) }
     ensures no_result { IsFirstFault no_result (codes "main") (fault Mismatch 2 21) }
     ensures outside { IsFirstFault break_outside (codes "main") (fault Mismatch 1 31) }
 {}
 
-/// A missing entry is told only where there is no other fault.
+/// A missing entry is known only where there is no other fault.
 pub fn examples_of_entries()
     ensures nothing { IsFirstFault no_function (codes "main") (fault NoEntry 1 1) }
     ensures parameter { IsFirstFault entry_with_parameter (codes "main") (fault NoEntry 1 1) }

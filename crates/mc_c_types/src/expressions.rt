@@ -69,7 +69,7 @@ impl<'s, 'a> VisibleNames<'s, 'a> {
         );
     }
 
-    /// The type behind a field, and anything where it is not there.
+    /// The type after a field, and anything where it is not there.
     fn behind_field(&self, pointer: VariableType, field: &Name) -> VariableType
         ensures { result ≡ behind_fields (tables_held self.now.tables.now) pointer (field.now ∷ []) }
     {
@@ -79,7 +79,7 @@ impl<'s, 'a> VisibleNames<'s, 'a> {
         }
     }
 
-    /// The type behind all these fields.
+    /// The type after all these fields.
     fn behind_fields(&self, start: VariableType, fields: &[Name]) -> VariableType
         ensures { result ≡ behind_fields (tables_held self.now.tables.now) start fields.now }
     {
@@ -105,7 +105,7 @@ impl<'s, 'a> VisibleNames<'s, 'a> {
         }
     }
 
-    /// The type of a variable or of a field behind it.
+    /// The type of a variable or of a field after it.
     pub fn left_type(&self, left: &LeftValue) -> VariableType
         ensures { result ≡ left_type (tables_held self.now.tables.now) (variables_held self.now.scope.now) (left_of left.now) }
     {
@@ -191,8 +191,7 @@ impl<'s, 'a> VisibleNames<'s, 'a> {
         self.want_int(told, left);
         self.want_int(told, right);
         stack.push(right)?;
-        stack.push(left)?;
-        Ok(())
+        stack.push(left)
     }
 
     /// Notes the faults of an expression itself, and keeps what is in it for later.

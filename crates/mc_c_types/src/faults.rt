@@ -3,7 +3,7 @@ use mc_base::text::Place;
 use std::alloc::AllocError;
 use thiserror::Error;
 
-/// What is wrong with a program. At one place the first of these is told.
+/// What is wrong with a program. At one place the first of these is known.
 #[derive(Clone, Copy, Debug, PartialEq, Eq, Error)]
 pub enum FaultName {
     /// A name that is not visible.

@@ -40,7 +40,7 @@ impl<'a> NameTables<'a> {
         None
     }
 
-    /// The type of the field behind a value of this type, if it is a pointer to a struct that has it.
+    /// The type of the field after a value of this type, if it is a pointer to a struct that has it.
     pub fn field_in(&self, pointer: VariableType, name: &Text) -> Option<VariableType>
         ensures { result ≡ field_in (tables_held self.now) pointer name.now }
     {

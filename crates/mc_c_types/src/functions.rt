@@ -17,7 +17,7 @@ pub struct Functions<'a> {
     defined: Table<'a, Function>,
 }
 
-/// Lets go of its parts. What holds one calls this.
+/// Drops its parts. What holds one calls this.
 impl Drop for Functions<'_> {
     fn drop(self) {
         let Functions { all, defined } = self;

@@ -25,7 +25,7 @@ pub struct Visible<'a> {
     names: NameStack<'a>,
 }
 
-/// Lets go of its parts. What holds one calls this.
+/// Drops its parts. What holds one calls this.
 impl Drop for Visible<'_> {
     fn drop(self) {
         let Visible { variables, names } = self;

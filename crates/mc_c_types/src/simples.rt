@@ -79,17 +79,10 @@ impl<'s, 'a> VisibleNames<'s, 'a> {
             (simple_of simple.now))) }
     {
         match simple {
-            Simple::Assign(left, right) => {
-                self.check_assignment(alloc, told, left, right)?;
-                Ok(())
-            }
-            Simple::Add(left, expression) => {
-                self.check_addition(alloc, told, left, expression)?;
-                Ok(())
-            }
+            Simple::Assign(left, right) => self.check_assignment(alloc, told, left, right),
+            Simple::Add(left, expression) => self.check_addition(alloc, told, left, expression),
             Simple::Subtract(left, expression) => {
-                self.check_addition(alloc, told, left, expression)?;
-                Ok(())
+                self.check_addition(alloc, told, left, expression)
             }
             Simple::Increment(left) => {
                 self.check_changed(told, left);
@@ -107,10 +100,7 @@ impl<'s, 'a> VisibleNames<'s, 'a> {
                 self.check_changed(told, left);
                 Ok(())
             }
-            Simple::Call(call) => {
-                self.check_call(alloc, told, call)?;
-                Ok(())
-            }
+            Simple::Call(call) => self.check_call(alloc, told, call),
         }
     }
 
@@ -129,10 +119,7 @@ impl<'s, 'a> VisibleNames<'s, 'a> {
     {
         match value {
             None => Ok(()),
-            Some(right) => {
-                self.check_right(alloc, told, wanted, right)?;
-                Ok(())
-            }
+            Some(right) => self.check_right(alloc, told, wanted, right),
         }
     }
 
@@ -162,10 +149,7 @@ impl<'s, 'a> VisibleNames<'s, 'a> {
                     told.note(FaultName::Mismatch, place);
                     Ok(())
                 }
-                Some(wanted) => {
-                    self.check_right(alloc, told, wanted, right)?;
-                    Ok(())
-                }
+                Some(wanted) => self.check_right(alloc, told, wanted, right),
             },
         }
     }
@@ -196,10 +180,7 @@ impl<'s, 'a> VisibleNames<'s, 'a> {
     {
         match condition {
             None => Ok(()),
-            Some(condition) => {
-                self.check_condition(alloc, told, condition)?;
-                Ok(())
-            }
+            Some(condition) => self.check_condition(alloc, told, condition),
         }
     }
 
@@ -217,10 +198,7 @@ impl<'s, 'a> VisibleNames<'s, 'a> {
     {
         match simple {
             None => Ok(()),
-            Some(simple) => {
-                self.check_simple(alloc, told, simple)?;
-                Ok(())
-            }
+            Some(simple) => self.check_simple(alloc, told, simple),
         }
     }
 }

@@ -81,7 +81,7 @@ impl<'a> NameTables<'a> {
         self.meaning(base).declared(star)
     }
 
-    /// Whether the base is known, and, behind it, a `*` has a struct that is defined.
+    /// Whether the base is known, and, after it, a `*` has a struct that is defined.
     pub fn is_known(&self, base: &Base, star: Option<Place>) -> bool
         ensures { result ≡ is_known (tables_held self.now) base.now star }
     {

@@ -1,4 +1,4 @@
-// The fault that is told of those that are found.
+// The fault that is known of those that are found.
 ghost use Rattle.std.specs.Prelude.{◌≡◌, Some, None, false};
 ghost use Rattle.mc_c_types.specs.First.{is_told, number_of, told_of};
 ghost use Rattle.mc_c_types.specs.Faults.{unless};
@@ -7,7 +7,7 @@ use crate::faults::{Fault, FaultName};
 use mc_base::text::Place;
 
 impl FaultName {
-    /// Its number: at one place the fault with the least number is told.
+    /// Its number: at one place the fault with the least number is known.
     pub fn number(self) -> u8
         ensures { result ≡ number_of self }
     {
@@ -24,7 +24,7 @@ impl FaultName {
 }
 
 impl Fault {
-    /// Whether this fault is told rather than the other.
+    /// Whether this fault is known rather than the other.
     pub fn is_told(self, other: Fault) -> bool
         ensures { result ≡ is_told self other }
     {

@@ -147,7 +147,7 @@ impl ValueType {
 }
 
 impl BaseType {
-    /// The type of a name that is declared with this base, and perhaps behind a `*`.
+    /// The type of a name that is declared with this base, and perhaps after a `*`.
     pub fn declared(self, star: Option<Place>) -> VariableType
         ensures { result ≡ declared_type self star }
     {

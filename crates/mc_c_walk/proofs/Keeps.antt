@@ -1,4 +1,4 @@
--- What stays of a scope behind statements, and how a block and a `for` give back the scope around.
+-- What stays of a scope after statements, and how a block and a `for` give back the scope around.
 use Rattle.std.proofs.Common.{◌≡◌, ℕ, ◌-◌, List, [], ◌∷◌, ◌++◌, length, take, drop, refl, ap, sym, ◌∙◌, arith, append_assoc}
 use Rattle.std.proofs.lemmas.List.{drop_at, length-append, take_at}
 use Rattle.mc_c_syntax.specs.declared.ast.trees.Base.{Base}

@@ -1,4 +1,4 @@
--- What is told part by part of parts in a row.
+-- What is known part by part of parts in a row.
 use Rattle.std.proofs.Common.{◌≡◌, List, [], ◌∷◌, ◌++◌, flat_map, refl, ap, sym, ◌∙◌, append_assoc}
 use Rattle.std.proofs.lemmas.List.{append-nil}
 
@@ -10,7 +10,7 @@ flat_joined f (v ∷ vs) ws = ap (λ xs. f v ++ xs) (flat_joined f vs ws) ∙ sy
 pub joined : {V X : Type 0} (f : V → List X) (vs ws : List V) (xs ys : List X) → xs ≡ flat_map f vs → ys ≡ flat_map f ws → xs ++ ys ≡ flat_map f (vs ++ ws)
 joined f vs ws xs ys is is' = ap (λ zs. zs ++ ys) is ∙ ap (λ zs. flat_map f vs ++ zs) is' ∙ sym (flat_joined f vs ws)
 
--- one, alone, before others, and behind them
+-- one, alone, before others, and after them
 pub alone : {V X : Type 0} (f : V → List X) (v : V) → f v ≡ flat_map f (v ∷ [])
 alone f v = sym (append-nil (f v))
 

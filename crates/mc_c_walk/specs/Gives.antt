@@ -1,4 +1,4 @@
--- What is told of a body, part by part: its faults, its calls, and its shape commands.
+-- What is known of a body, part by part: its faults, its calls, and its shape commands.
 use Rattle.std.specs.Prelude.{◌≡◌, ℕ, List, [], ◌∷◌, ◌++◌, Option, map, flat_map, is_none}
 use Rattle.mc_c_syntax.specs.declared.ast.trees.Name.{Name}
 use Rattle.mc_c_syntax.specs.Ast.Trees.{FunctionTree}

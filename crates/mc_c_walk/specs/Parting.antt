@@ -6,7 +6,7 @@ use Rattle.mc_c_types.specs.Tables.{Variable}
 use Rattle.mc_c_types.specs.declared.scope.Named.{Named}
 use Rattle.mc_c_walk.specs.declared.variables.Marks.{Marks}
 
--- so many belong to the heads, so many behind them to the block, and the others are around
+-- so many belong to the heads, so many after them to the block, and the others are around
 abbrev pub parted : ℕ → ℕ → List Variable → Scope
 parted heads own vs = record { heads = take heads vs; own = take own (drop heads vs); outer = drop own (drop heads vs) }
 

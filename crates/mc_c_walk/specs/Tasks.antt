@@ -14,7 +14,7 @@ use Rattle.mc_c_walk.specs.declared.parts.Part.{Part}
 use Rattle.mc_c_walk.specs.declared.tasks.Task.{Task}
 use Rattle.mc_c_walk.specs.declared.walking.Walk.{Walk}
 
--- behind several statements
+-- after several statements
 abbrev pub behind_all : Tables → Scope → Stmts → Scope
 behind_all t s no_more = s
 behind_all t s (then a rest) = behind_all t (behind t s a) rest
@@ -30,7 +30,7 @@ task_visits t s (Task.EndBlock marks) = []
 task_visits t s (Task.EndStart marks) = []
 task_visits t s (Task.EndFor heads) = []
 
--- the scope behind it
+-- the scope after it
 abbrev pub behind_task : Tables → Scope → Task → Scope
 behind_task t s (Task.Visit part) = s
 behind_task t s (Task.Whole a in_loop) = behind t s (statement_of a.now.value)

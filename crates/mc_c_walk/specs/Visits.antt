@@ -15,7 +15,7 @@ use Rattle.mc_c_types.specs.Tables.{Tables, parameters_of, variable_of}
 
 -- a part of a statement
 pub data PartTree : Type 0 where
-  -- a declarator, seen before its variable is there; and its value, if it has one, seen behind it
+  -- a declarator, seen before its variable is there; and its value, if it has one, seen after it
   declared : Base → Declarator → PartTree
   valued : Base → Declarator → Option Right → PartTree
   performed : SimpleTree → PartTree
@@ -36,7 +36,7 @@ pub record Visit : Type 0 where
 abbrev pub visit : Scope → PartTree → Visit
 visit s part = record { scope = s; part = part }
 
--- a declarator is seen before its variable is there, its value behind that
+-- a declarator is seen before its variable is there, its value after that
 abbrev pub items_visits : Tables → Base → Scope → List InitialTree → List Visit
 items_visits t base s [] = []
 items_visits t base s (item ∷ items) =

@@ -9,7 +9,7 @@ use mc_c_syntax::ast::{
 pub enum Part<'a> {
     /// A declarator, before its variable is there.
     Declared(&'a Base, &'a Declarator),
-    /// The value of a declarator, if it has one, behind it.
+    /// The value of a declarator, if it has one, after it.
     Valued(&'a Base, &'a Declarator, &'a Option<RightSide>),
     /// A simple statement, also in the head of a `for`.
     Performed(&'a Simple),

@@ -26,7 +26,7 @@ pub struct Variables<'a> {
     own: usize,
 }
 
-/// Lets go of its parts. What holds one calls this.
+/// Drops its parts. What holds one calls this.
 impl Drop for Variables<'_> {
     fn drop(self) {
         let Variables {

@@ -16,7 +16,7 @@ pub struct Walk<'a> {
     tasks: Stack<Task<'a>>,
 }
 
-/// Lets go of its parts. What holds one calls this.
+/// Drops its parts. What holds one calls this.
 impl Drop for Walk<'_> {
     fn drop(self) {
         let Walk { scope, tasks } = self;
@@ -183,8 +183,7 @@ impl<'a> Walk<'a> {
             }) }
     {
         self.tasks.push(Task::Whole(part, in_loop))?;
-        self.tasks.push(Task::Visit(Part::Tested(condition)))?;
-        Ok(())
+        self.tasks.push(Task::Visit(Part::Tested(condition)))
     }
 
     /// A statement in a loop is next, and then a condition.
@@ -201,16 +200,14 @@ impl<'a> Walk<'a> {
             }) }
     {
         self.tasks.push(Task::Visit(Part::Tested(condition)))?;
-        self.tasks.push(Task::Whole(part, true))?;
-        Ok(())
+        self.tasks.push(Task::Whole(part, true))
     }
 
     /// A part is next.
     fn give(&mut self, part: Part<'a>) -> Result<(), AllocError>
         ensures { OnOk result (self.new ≡ record { scope = self.old.scope; tasks = Task.Visit part.entry ∷ self.old.tasks }) }
     {
-        self.tasks.push(Task::Visit(part))?;
-        Ok(())
+        self.tasks.push(Task::Visit(part))
     }
 
     /// A statement is next.
@@ -221,72 +218,28 @@ impl<'a> Walk<'a> {
     {
         match statement {
             Statement::Declaration(declaration) => {
-                self.tasks.push(Task::Items(&declaration.base, declaration.items.as_slice()))?;
-                Ok(())
+                self.tasks.push(Task::Items(&declaration.base, declaration.items.as_slice()))
             }
-            Statement::Block(_, several) => {
-                self.enter_block(several.as_slice(), in_loop)?;
-                Ok(())
-            }
+            Statement::Block(_, several) => self.enter_block(several.as_slice(), in_loop),
             Statement::Empty(_) => Ok(()),
-            Statement::Simple(simple) => {
-                self.give(Part::Performed(simple))?;
-                Ok(())
-            }
-            Statement::Free(_, pointer) => {
-                self.give(Part::Freed(pointer))?;
-                Ok(())
-            }
-            Statement::Assert(_, condition) => {
-                self.give(Part::Tested(condition))?;
-                Ok(())
-            }
-            Statement::Assume(_, condition) => {
-                self.give(Part::Tested(condition))?;
-                Ok(())
-            }
-            Statement::AssumeShape(shape) => {
-                self.give(Part::Assumed(shape))?;
-                Ok(())
-            }
-            Statement::AssertShape(shape) => {
-                self.give(Part::Asserted(shape))?;
-                Ok(())
-            }
+            Statement::Simple(simple) => self.give(Part::Performed(simple)),
+            Statement::Free(_, pointer) => self.give(Part::Freed(pointer)),
+            Statement::Assert(_, condition) => self.give(Part::Tested(condition)),
+            Statement::Assume(_, condition) => self.give(Part::Tested(condition)),
+            Statement::AssumeShape(shape) => self.give(Part::Assumed(shape)),
+            Statement::AssertShape(shape) => self.give(Part::Asserted(shape)),
             Statement::AssertEmpty(_) => Ok(()),
-            Statement::If(_, condition, part) => {
-                self.enter_tested(condition, part, in_loop)?;
-                Ok(())
-            }
+            Statement::If(_, condition, part) => self.enter_tested(condition, part, in_loop),
             Statement::IfElse(_, condition, first, second) => {
                 self.tasks.push(Task::Whole(second, in_loop))?;
-                self.enter_tested(condition, first, in_loop)?;
-                Ok(())
+                self.enter_tested(condition, first, in_loop)
             }
-            Statement::While(_, condition, part) => {
-                self.enter_tested(condition, part, true)?;
-                Ok(())
-            }
-            Statement::Do(_, part, condition) => {
-                self.enter_until(part, condition)?;
-                Ok(())
-            }
-            Statement::For(head, part) => {
-                self.enter_for(head, part)?;
-                Ok(())
-            }
-            Statement::Break(place) => {
-                self.give(Part::LoopExit(*place, in_loop))?;
-                Ok(())
-            }
-            Statement::Continue(place) => {
-                self.give(Part::LoopExit(*place, in_loop))?;
-                Ok(())
-            }
-            Statement::Return(place, value) => {
-                self.give(Part::Returning(*place, value))?;
-                Ok(())
-            }
+            Statement::While(_, condition, part) => self.enter_tested(condition, part, true),
+            Statement::Do(_, part, condition) => self.enter_until(part, condition),
+            Statement::For(head, part) => self.enter_for(head, part),
+            Statement::Break(place) => self.give(Part::LoopExit(*place, in_loop)),
+            Statement::Continue(place) => self.give(Part::LoopExit(*place, in_loop)),
+            Statement::Return(place, value) => self.give(Part::Returning(*place, value)),
         }
     }
 

@@ -31,7 +31,7 @@ folds_to judged g b closed states list e same made =
     let given : List Path → Judged (List Path) = λ l. Ok l in
     ap (λ j. by_folding j g b) e ∙ sym (ap given made ∙ ap (λ c. given (map (with_state c) states)) same)
 
--- a premise behind those of a rule, which is met
+-- a premise after those of a rule, which is met
 met_too : (judged : Judged (List Path)) → and_need 4 true judged ≡ judged
 met_too (Ok next) = refl
 met_too (Err k) = refl

@@ -1,4 +1,4 @@
--- What an instruction lacks is told in one way.
+-- What an instruction lacks is known in one way.
 use Rattle.std.proofs.Common.{◌≡◌, ◌↔◌, Option, Some, None, refl, sym}
 use Rattle.mc_rules_steps.specs.declared.gap.Gap.{Gap}
 

@@ -13,14 +13,14 @@ ghost use Rattle.mc_state.specs.State.{State as Symbolic};
 use crate::unfolds::with_states;
 use crate::{Branch, Next, Refused, Setting};
 use mc_apply_fold::change::{EmptySeg, SpareNode, close_seg, join_segs, make_seg, name_spare};
-use mc_apply_fold::fold::{NamedRule, fold_ind, fold_seg};
-use mc_base::{Args, EdgeId, Items, Kind, NoMemory, NodeId, PredId};
+use mc_apply_fold::fold::{fold_ind, fold_seg};
+use mc_base::{Args, EdgeId, Kind, NoMemory, NodeId, PredId};
 use mc_flow::defs::Defs;
-use mc_state::{Form, Goal, LogicFault};
+use mc_state::{FoldInd, FoldSeg, Form, Goal, LogicFault};
 use mc_symbolic::State;
 use std::alloc::Global;
 
-/// Whether a branch is closing behind a fold: in a chain it is, side branches aside.
+/// Whether a branch is closing after a fold: in a chain it is, side branches aside.
 fn closes_by(form: Form, goal: &Option<Goal>, closing: bool) -> bool
     ensures { result ≡ closes_by form goal.now closing }
 {
@@ -33,7 +33,7 @@ fn closes_by(form: Form, goal: &Option<Goal>, closing: bool) -> bool
     }
 }
 
-/// The branch behind a fold.
+/// The branch after a fold.
 fn closed_by(form: Form, mut branch: Branch) -> Branch
     ensures { path result ≡ record (path branch) { closing = closes_by form branch.goal branch.closing } }
 {
@@ -58,7 +58,7 @@ fn folded(
     }
 }
 
-/// The branches behind a fold that gives states, or its first premise that is unmet.
+/// The branches after a fold that gives states, or its first premise that is unmet.
 fn folded_to(
     alloc: Global,
     setting: Setting<'_>,
@@ -79,107 +79,35 @@ fn folded_to(
 }
 
 /// L3: folds a rule's block and calls into an Ind.
-fn to_ind(
-    alloc: Global,
-    defs: &Defs,
-    setting: Setting<'_>,
-    named: &NamedRule<'_>,
-    block: Option<EdgeId>,
-    edges: &[EdgeId],
-    branch: Branch,
-) -> Result<Next, Refused>
-    ensures { (know : Test) → Tells know branch.state → IsLineAnswer (by_folding
-        (folding_ind know defs.now named.now.pred named.now.rule named.now.names.now block edges.now branch.state)
-        (setting_of setting.entry) (path branch)) (path branch) result }
-{
-    let given = fold_ind(alloc, &branch.state, defs, named, block, edges);
-    folded_to(alloc, setting, given, branch)
-}
-
-/// L4: folds a rule's block and calls without one into a Seg to that call.
-fn to_seg(
-    alloc: Global,
-    defs: &Defs,
-    setting: Setting<'_>,
-    named: &NamedRule<'_>,
-    block: EdgeId,
-    edges: &[EdgeId],
-    call: u64,
-    branch: Branch,
-) -> Result<Next, Refused>
-    ensures { (know : Test) → Tells know branch.state → IsLineAnswer (by_folding
-        (folding_seg know defs.now named.now.pred named.now.rule named.now.names.now block edges.now call branch.state)
-        (setting_of setting.entry) (path branch)) (path branch) result }
-{
-    let given = fold_seg(alloc, &branch.state, defs, named, block, edges, call);
-    folded_to(alloc, setting, given, branch)
-}
-
-/// The entries of L3.
-#[derive(Clone, Copy)]
-pub struct IndLine<'a> {
-    pub pred: PredId,
-    pub rule: u64,
-    pub names: &'a Items<NodeId>,
-    pub block: Option<EdgeId>,
-    pub edges: &'a Items<EdgeId>,
-}
-
-/// L3 with the entries of a line.
 pub fn fold_to_ind(
     alloc: Global,
     defs: &Defs,
     setting: Setting<'_>,
-    line: &IndLine<'_>,
+    fold: &FoldInd,
     branch: Branch,
 ) -> Result<Next, Refused>
     ensures { (know : Test) → Tells know branch.state → IsLineAnswer (by_folding
-        (folding_ind know defs.now line.now.pred line.now.rule line.now.names.now line.now.block line.now.edges.now
-        branch.state) (setting_of setting.entry) (path branch)) (path branch) result }
+        (folding_ind know defs.now fold.now branch.state) (setting_of setting.entry) (path branch)) (path branch)
+        result }
 {
-    let names = line.names.as_slice();
-    let edges = line.edges.as_slice();
-    let named = NamedRule {
-        pred: line.pred,
-        rule: line.rule,
-        names,
-    };
-    to_ind(alloc, defs, setting, &named, line.block, edges, branch)
+    let given = fold_ind(alloc, &branch.state, defs, fold);
+    folded_to(alloc, setting, given, branch)
 }
 
-/// The entries of L4.
-#[derive(Clone, Copy)]
-pub struct SegLine<'a> {
-    pub pred: PredId,
-    pub rule: u64,
-    pub names: &'a Items<NodeId>,
-    pub block: EdgeId,
-    pub edges: &'a Items<EdgeId>,
-    pub call: u64,
-}
-
-/// L4 with the entries of a line.
+/// L4: folds a rule's block and calls without one into a Seg to that call.
 pub fn fold_to_seg(
     alloc: Global,
     defs: &Defs,
     setting: Setting<'_>,
-    line: &SegLine<'_>,
+    fold: &FoldSeg,
     branch: Branch,
 ) -> Result<Next, Refused>
     ensures { (know : Test) → Tells know branch.state → IsLineAnswer (by_folding
-        (folding_seg know defs.now line.now.pred line.now.rule line.now.names.now line.now.block line.now.edges.now
-        line.now.call branch.state) (setting_of setting.entry) (path branch)) (path branch) result }
+        (folding_seg know defs.now fold.now branch.state) (setting_of setting.entry) (path branch)) (path branch)
+        result }
 {
-    let names = line.names.as_slice();
-    let edges = line.edges.as_slice();
-    let named = NamedRule {
-        pred: line.pred,
-        rule: line.rule,
-        names,
-    };
-    to_seg(
-        alloc, defs, setting, &named, line.block, edges, line.call, branch,
-    )
+    let given = fold_seg(alloc, &branch.state, defs, fold);
+    folded_to(alloc, setting, given, branch)
 }
 
 /// L5: folds a Seg and an Ind at its end.

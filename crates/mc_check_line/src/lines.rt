@@ -6,16 +6,13 @@ ghost use Rattle.mc_kernel.specs.JudgedLaws.{IsAsked};
 ghost use Rattle.mc_kernel.specs.Judges.{Knowledge, judged_line};
 ghost use Rattle.mc_state.specs.Fits.{IsWellMade};
 
-use crate::folds::{
-    EmptyLine, IndLine, SegLine, close, fold_to_ind, fold_to_seg, join, make, name_node,
-};
+use crate::folds::{EmptyLine, close, fold_to_ind, fold_to_seg, join, make, name_node};
 use crate::jumps::jump_to;
 use crate::logic::{drop, end_false, end_side, forget, merge};
 use crate::steps::step;
 use crate::stuck::stick;
 use crate::unfolds::{back, ind, seg};
 use crate::{Branch, Next, Refused, Setting};
-use mc_apply_steps::instructions::InstrRule;
 use mc_flow::Flow;
 use mc_flow::defs::Defs;
 use mc_lines::cert::Line;
@@ -37,47 +34,11 @@ pub fn judge(
         (judged_line k flow.now defs.now (setting_of setting.entry) line.now (path branch)) (path branch) result }
 {
     match line {
-        Line::S1 => step(alloc, flow, defs, setting, InstrRule::S1, branch),
-        Line::S2 => step(alloc, flow, defs, setting, InstrRule::S2, branch),
-        Line::S3 => step(alloc, flow, defs, setting, InstrRule::S3, branch),
-        Line::S4 => step(alloc, flow, defs, setting, InstrRule::S4, branch),
-        Line::S5 => step(alloc, flow, defs, setting, InstrRule::S5, branch),
-        Line::S6 => step(alloc, flow, defs, setting, InstrRule::S6, branch),
-        Line::S7 => step(alloc, flow, defs, setting, InstrRule::S7, branch),
-        Line::S8 => step(alloc, flow, defs, setting, InstrRule::S8, branch),
-        Line::S9 => step(alloc, flow, defs, setting, InstrRule::S9, branch),
-        Line::S10 => step(alloc, flow, defs, setting, InstrRule::S10, branch),
-        Line::S11 => step(alloc, flow, defs, setting, InstrRule::S11, branch),
-        Line::S12 => step(alloc, flow, defs, setting, InstrRule::S12, branch),
-        Line::S13 => step(alloc, flow, defs, setting, InstrRule::S13, branch),
-        Line::S14 => step(alloc, flow, defs, setting, InstrRule::S14, branch),
-        Line::S15 => step(alloc, flow, defs, setting, InstrRule::S15, branch),
-        Line::S16 => step(alloc, flow, defs, setting, InstrRule::S16, branch),
-        Line::S17 => step(alloc, flow, defs, setting, InstrRule::S17, branch),
-        Line::S18 => step(alloc, flow, defs, setting, InstrRule::S18, branch),
+        Line::Step(rule) => step(alloc, flow, defs, setting, *rule, branch),
         Line::L1(edge) => ind(alloc, flow, defs, *edge, branch),
         Line::L2(edge) => seg(alloc, flow, defs, *edge, branch),
-        Line::L3(pred, rule, names, block, edges) => {
-            let fold = IndLine {
-                pred: *pred,
-                rule: *rule,
-                names,
-                block: *block,
-                edges,
-            };
-            fold_to_ind(alloc, defs, setting, &fold, branch)
-        }
-        Line::L4(pred, rule, names, block, edges, call) => {
-            let fold = SegLine {
-                pred: *pred,
-                rule: *rule,
-                names,
-                block: *block,
-                edges,
-                call: *call,
-            };
-            fold_to_seg(alloc, defs, setting, &fold, branch)
-        }
+        Line::L3(fold) => fold_to_ind(alloc, defs, setting, fold, branch),
+        Line::L4(fold) => fold_to_seg(alloc, defs, setting, fold, branch),
         Line::L5(first, second) => close(alloc, setting, *first, *second, branch),
         Line::L6(first, second) => join(alloc, setting, *first, *second, branch),
         Line::L7(pred, at, args, end, end_args) => {

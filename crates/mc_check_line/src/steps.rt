@@ -1,7 +1,6 @@
 // Lines of instructions.
 ghost use Rattle.std.specs.Prelude.{◌≡◌, List, map};
 ghost use Rattle.mc_flow.specs.Valid.{IsValid};
-ghost use Rattle.mc_apply_steps.specs.Instructions.Named.{named};
 ghost use Rattle.mc_check_line.specs.Judging.{IsLineAnswer, path, paths, setting_of};
 ghost use Rattle.mc_kernel.specs.Branches.{path_of};
 ghost use Rattle.mc_kernel.specs.JudgedLaws.{IsAsked};
@@ -14,12 +13,11 @@ ghost use Rattle.mc_apply_steps.specs.Step.Stepped.{Steps, seen, successors};
 
 use crate::places::may_step;
 use crate::{Branch, Next, Refused, Setting};
-use mc_apply_steps::instructions::InstrRule;
 use mc_apply_steps::step::{Next as Successor, Refused as NoStep, Stepped};
 use mc_base::PointId;
 use mc_flow::Flow;
 use mc_flow::defs::Defs;
-use mc_state::Goal;
+use mc_state::{Goal, InstrRule};
 use std::alloc::Global;
 
 /// The branch that comes of an instruction: it has moved, or is a side branch.
@@ -96,7 +94,7 @@ pub fn step(
     requires valid { IsValid flow.now defs.now }
     requires made { IsWellMade defs.now flow.now.vars flow.now.structs.list branch.state }
     ensures { (k : Knowledge) → IsAsked k flow.now defs.now (path branch) → IsLineAnswer
-        (by_step k flow.now (setting_of setting.entry) (named rule) (path branch)) (path branch) result }
+        (by_step k flow.now (setting_of setting.entry) rule (path branch)) (path branch) result }
 {
     if !may_step(setting, &branch) {
         return Err(Refused::Premise(1, branch));

@@ -23,12 +23,12 @@ use Rattle.mc_cover.specs.Guessed.{Guesses, or_else, first_edge, summary_of, Blo
 use Rattle.mc_cover.specs.Laws.{GuessIsTheGuess, NoGuessUndefined}
 use Rattle.mc_cover.specs.Terms.{equal_terms}
 use Rattle.mc_cover.proofs.FirstEdge.{IsFirst, first_from, first_none, first_to, less_edges}
-use Rattle.mc_cover.proofs.Left.{ids_without}
 use Rattle.mc_cover.proofs.Options.{same_some, if_some, if_yes}
 use Rattle.mc_cover.proofs.Parts.{same_pred, block_parts, block_yes}
 use Rattle.mc_cover.proofs.Rules.{IsThe, IsRight, IfAny, rule_is}
 use Rattle.mc_cover.proofs.Sound.{rule_fits}
 use Rattle.mc_cover.proofs.Terms.{equal_from, equal_to}
+use Rattle.mc_state.proofs.Ids.{ids_without}
 
 -- this holds of what the option has, and of nothing else
 abbrev IsGiven : (List Term → Type 0) → Option (List Term) → Type 0

@@ -1,6 +1,6 @@
 -- The edges that marks leave.
-use Rattle.std.proofs.Common.{◌≡◌, ◌≤◌, ℕ, suc, Bool, true, false, not, ◌||◌, Option, Some, None, List, [], ◌∷◌, ◌++◌, refl, ap, sym, ◌∙◌, arith, eqb-true, eq-eqb, append-nil, append_assoc}
-use Rattle.std.specs.Prelude.{◌==◌, option_map, option_to_list, if◌then◌else◌}
+use Rattle.std.proofs.Common.{◌≡◌, ℕ, Bool, true, false, not, ◌||◌, Option, Some, None, List, [], ◌∷◌, ◌++◌, refl, ap, sym, ◌∙◌, eqb-true, eq-eqb, append-nil, append_assoc}
+use Rattle.std.specs.Prelude.{◌==◌, option_map, option_to_list}
 use Rattle.mc_base.specs.declared.ids.EdgeId.{EdgeId}
 use Rattle.mc_state.specs.declared.graph.edge.Edge.{Edge}
 use Rattle.mc_state.specs.Graph.Graph.{Edges, edge_with, without, IdsAscend}
@@ -11,8 +11,9 @@ use Rattle.mc_shape_search.specs.Search.Search.{uses, takes_this, is_unused, is_
 use Rattle.mc_cover.specs.Goals.{Mark}
 use Rattle.mc_cover.specs.Marks.{edge_of, takes}
 use Rattle.mc_cover.specs.First.{taken}
+use Rattle.mc_state.proofs.Ids.{ids_without}
 
-or_parts : (a b : Bool) → (a || b) ≡ false → (a ≡ false) × (b ≡ false)
+pub or_parts : (a b : Bool) → (a || b) ≡ false → (a ≡ false) × (b ≡ false)
 or_parts true b e = absurd (cc e)
 or_parts false b e = (refl, e)
 
@@ -20,7 +21,7 @@ or_assoc : (a b c : Bool) → (a || (b || c)) ≡ ((a || b) || c)
 or_assoc true b c = refl
 or_assoc false b c = refl
 
-turned : (a b : ℕ) → (a == b) ≡ false → (b == a) ≡ false
+pub turned : (a b : ℕ) → (a == b) ≡ false → (b == a) ≡ false
 turned a b e = at (b == a) refl
   where
     at : (c : Bool) → (b == a) ≡ c → c ≡ false
@@ -38,19 +39,6 @@ others_keep es [] id e = refl
 others_keep es (other ∷ ids) id e =
     let both = or_parts (other.0 == id.0) (is_among id ids) e in
     others_keep (without es other) ids id both.1 ∙ kept_other es other id (turned other.0 id.0 both.0)
-
-ids_lower : (low bound : ℕ) (es : Edges) (high : ℕ) → low ≤ bound → IdsAscend bound es high → IdsAscend low es high
-ids_lower low bound [] high less a = tt
-ids_lower low bound (e ∷ es) high less a = let first = a.0 in (omega arith, a.1, a.2)
-
--- ids ascend still where one has gone
-pub ids_without : (low : ℕ) (es : Edges) (high : ℕ) (id : EdgeId) → IdsAscend low es high → IdsAscend low (without es id) high
-ids_without low [] high id a = tt
-ids_without low (e ∷ es) high id a = at (ids_without (suc e.0.0) es high id a.2) (e.0.0 == id.0)
-  where
-    at : IdsAscend (suc e.0.0) (without es id) high → (here : Bool) → IdsAscend low (if here then es else e ∷ without es id) high
-    at rest true = let first = a.0 in ids_lower low (suc e.0.0) es high (omega arith) a.2
-    at rest false = (a.0, a.1, rest)
 
 same_edge : (a b : EdgeId) → (a.0 == b.0) ≡ true → a ≡ b
 same_edge a b e = ap (λ n. record { 0 = n }) (eqb-true a.0 b.0 e)

@@ -2,7 +2,7 @@ pub mod Options
 pub mod Terms
 pub mod Fixed
 pub mod Parts
-mod Left
+pub mod Left
 mod Sound
 mod Listed
 mod Picked

@@ -1,16 +1,15 @@
 -- Edges that start elsewhere than the goal meet nothing.
-use Rattle.std.proofs.Common.{◌≡◌, ◌≤◌, ◌<◌, ℕ, suc, ◌⊎◌, inl, inr, Bool, true, false, not, ◌&&◌, Option, Some, None, List, [], ◌∷◌, ◌++◌, length, map, slice_get, refl, ap, sym, subst, ◌∙◌, arith, eqb-true, eq-eqb}
+use Rattle.std.proofs.Common.{◌≡◌, ◌≤◌, ◌<◌, ℕ, suc, inl, inr, Bool, true, false, not, Option, Some, None, List, [], ◌∷◌, ◌++◌, length, map, refl, ap, sym, subst, ◌∙◌, arith, eqb-true, eq-eqb}
 use Rattle.std.specs.Prelude.{◌==◌, ◌+◌, ◌*◌, is_some, if◌then◌else◌}
 use Rattle.std.specs.List.{filter, flat_map}
 use Rattle.std.proofs.lemmas.List.{length-map}
 use Rattle.mc_base.specs.declared.ids.EdgeId.{EdgeId}
 use Rattle.mc_base.specs.declared.ids.NodeId.{NodeId}
 use Rattle.mc_base.specs.declared.ids.StructId.{StructId}
-use Rattle.mc_flow.specs.declared.defs.rules.Def.{Def}
 use Rattle.mc_flow.specs.declared.defs.rules.Rule.{Rule}
-use Rattle.mc_flow.specs.Defs.Conditions.{IsDefs, numbers_from}
+use Rattle.mc_flow.specs.Defs.Conditions.{numbers_from}
 use Rattle.mc_state.specs.declared.graph.edge.Edge.{Edge}
-use Rattle.mc_state.specs.declared.graph.edge.Edge.TheVariants.{Block, Ind, Seg}
+use Rattle.mc_state.specs.declared.graph.edge.Edge.TheVariants.{Ind, Seg}
 use Rattle.mc_state.specs.Graph.Edges.{start_of}
 use Rattle.mc_state.specs.Graph.Graph.{Edges, edge_with, IdsAscend}
 use Rattle.mc_state.specs.Terms.{plain}
@@ -20,8 +19,8 @@ use Rattle.mc_shape_search.specs.Search.Search.{applies, is_free, options, first
 use Rattle.mc_shape_search.specs.Search.Met.{IsIn}
 use Rattle.mc_shape_search.proofs.SearchLemmas.Members.{filter_yes, filter_no}
 use Rattle.mc_cover.specs.First.{all_calls, limit}
-use Rattle.mc_cover.specs.Goals.{Goal, Mark, AtEnd, ByInd, BySeg, ByRule, ByCall, Setting, is_ind, is_seg, whole_block, contents_by}
-use Rattle.mc_cover.specs.Marks.{def_at, rule_at, has_call, ids_of, blocks_for, marks_with, marks_of_rules, rules_of, marks_on, fits, takes, space}
+use Rattle.mc_cover.specs.Goals.{Goal, Mark, AtEnd, ByInd, BySeg, ByRule, ByCall, Setting, is_ind, whole_block, contents_by}
+use Rattle.mc_cover.specs.Marks.{def_at, rule_at, has_call, ids_of, blocks_for, marks_with, marks_of_rules, rules_of, fits, takes, space}
 use Rattle.mc_cover.specs.Laws.{NearIsFirst}
 use Rattle.mc_cover.specs.Near.{starts_at, near, near_space}
 use Rattle.mc_cover.specs.Terms.{equal_terms}
@@ -29,24 +28,9 @@ use Rattle.mc_cover.proofs.Enough.{any_limit, same_first}
 use Rattle.mc_cover.proofs.Listed.{all_few, numbers}
 use Rattle.mc_cover.proofs.Options.{there, then_some}
 use Rattle.mc_cover.proofs.Parts.{ind_parts, seg_parts, block_parts, rule_parts, named_there}
-
-no_yes : (b : Bool) → (b ≡ true → ⊥) → b ≡ false
-no_yes true h = absurd (h refl)
-no_yes false h = refl
-
-yes_or_no : (b : Bool) → (b ≡ true) ⊎ (b ≡ false)
-yes_or_no true = inl refl
-yes_or_no false = inr refl
+use Rattle.mc_cover.proofs.SearchLemmas.Left.{filter_append, no_yes, yes_or_no}
 
 -- ---- filters
-filter_append : {X : Type 0} (p : X → Bool) (xs ys : List X) → filter p (xs ++ ys) ≡ filter p xs ++ filter p ys
-filter_append p [] ys = refl
-filter_append p (x ∷ xs) ys =
-    elim (yes_or_no (p x)) [
-      | inl t ↦ filter_yes p x (xs ++ ys) t ∙ (ap (λ l. x ∷ l) (filter_append p xs ys) ∙ ap (λ l. l ++ filter p ys) (sym (filter_yes p x xs t)))
-      | inr t ↦ filter_no p x (xs ++ ys) t ∙ (filter_append p xs ys ∙ ap (λ l. l ++ filter p ys) (sym (filter_no p x xs t)))
-    ]
-
 none_pass : {X : Type 0} (p : X → Bool) (xs : List X) → ((x : X) → p x ≡ false) → filter p xs ≡ []
 none_pass p [] no' = refl
 none_pass p (x ∷ xs) no' = filter_no p x xs (no' x) ∙ none_pass p xs no'

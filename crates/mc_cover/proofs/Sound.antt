@@ -79,7 +79,7 @@ module _ (w : Setting) (s : State) (tells : Tells w.know s) (fit : IsDefs w.defs
       (id, p.b, p.args, still_there w.edges log (ByInd id) id (Ind p.b g.pred p.args) refl free p.edge, equal_from w.know s tells g.at (plain p.b) p.same_at, all_equal_from w.know s tells g.args (map plain p.args) p.same_args, r ∙ left_less w.edges log (ByInd id) id refl) in
       with_stop (suc k) g g.stop None (left_by w.edges log) (left_by w.edges after) no' (inl made)
 
-  -- what is behind a Seg
+  -- what is after a Seg
   seg_by : (k : ℕ) (g next : Goal) (o : Option Stop) (log : List Mark) (left : Edges) (id : EdgeId) (p : SegParts w.know g (edge_with w.edges id)) → is_free takes log (BySeg id) ≡ true
       → next ≡ (record { pred = g.pred; at = plain p.last; args = map plain p.lasts; stop = g.stop }) → Made k next o (without (left_by w.edges log) id) left → Made (suc k) g o (left_by w.edges log) left
   seg_by k g next None log left id p free is m =

@@ -1,4 +1,4 @@
--- Tests of terms, and what is derived of them.
+-- Tests of terms, and what is entailed of them.
 use Rattle.std.proofs.Common.{◌≡◌, List, [], ◌∷◌, true, ◌-ℤ◌, refl}
 use Rattle.std.specs.List.{AllByRecursion}
 use Rattle.mc_base.specs.declared.plain.Kind.{Kind}

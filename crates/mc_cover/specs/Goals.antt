@@ -55,7 +55,7 @@ is_seg know g (Some (Ind b pred args)) = false
 is_seg know g (Some (Seg b args pred «end» ends)) =
     pred.0 == g.pred.0 && (equal_terms know g.at (plain b) && all_equal_terms know g.args (map plain args))
 
--- what is left to be made behind a Seg: the same from its end on
+-- what is left to be made after a Seg: the same from its end on
 abbrev pub behind_seg : Goal → Option Edge → List Goal
 behind_seg g None = []
 behind_seg g (Some (Block b shape fields)) = []

@@ -36,7 +36,7 @@ pub fn example_segments()
         ≡ taking (1 ∷ []) (entry 0 other_list ∷ entry 2 (Ind (node 2) tree_id []) ∷ []) }
 {}
 
-/// The length of a list is one more than that of the list behind its first cell, that of an edge
+/// The length of a list is one more than that of the list after its first cell, that of an edge
 /// that is there, that of the stop where it is reached, and zero where nothing lies.
 pub fn example_guesses()
     ensures behind { guess of_length defs lenlist_id (at 1) None cell_and_length.graph.edges ≡ plus (at 4) (pos 1) ∷ [] }

@@ -119,6 +119,6 @@ none_behind (token ∷ []) ends here = refl
 none_behind (token ∷ []) ends (past other c) = absurd (other ends)
 none_behind (token ∷ second ∷ tokens) ends (past other c) = none_behind (second ∷ tokens) ends.1 c
 
--- behind a whole text a file has no tokens
+-- after a whole text a file has no tokens
 pub nothing_behind : {ds all : List DefText} (tokens : Tokens) (behind : Tokens) → EndsOnce tokens → MoreDefs ds (tokens ++ behind) [] all → behind ≡ []
 nothing_behind tokens behind ends defs = none_behind tokens ends (clear_defs defs).1

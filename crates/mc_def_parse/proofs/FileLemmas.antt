@@ -61,7 +61,7 @@ no_def a b (next_def (definition (head w p o t ps c br) r more close) defs) = b 
 pub outside_stuck : (done : List DefText) {token : Token} → (token.kind ≡ TokenKind.End → ⊥) → (IsWord (codes "def") token → ⊥) → IsStuckAt (MoreDefs done) token
 outside_stuck done a b = λ tokens rest x n. no_def a b n
 
--- ---- behind a rule
+-- ---- after a rule
 last_forward : (done : List DefText) (h : Head) (rules : List RuleText) {file : List DefText} {token : Token} {tokens rest : Tokens} → Is Symbol.CloseBrace token → RulesEnd done h rules (token ∷ tokens) rest file → MoreDefs (done ++ record { head = h; rules = rules } ∷ []) tokens rest file
 last_forward done h rules i (all, close, mid, last_rule, c, defs) = defs
 last_forward done h rules i (all, close, mid, next_rule (rule w ob body cb) more, c, defs) = let n = w.name in absurd (cc)
@@ -133,7 +133,7 @@ item_forward done h rules this token tokens a (inr n) = n
 pub this_item : (done : List DefText) (h : Head) (rules : List RuleText) (this : Name) (token : Token) → (Is Symbol.Arrow token → ⊥) → SameAt (ThisGoesOn done h rules this) (Then (NameStops this) (ItemEnds done h rules None [])) token
 this_item done h rules this token a = record { forward = λ tokens rest x n. item_forward done h rules this token tokens a n; backward = λ tokens rest x l. inr l }
 
--- ---- behind an item
+-- ---- after an item
 brace_no_item : {item : Item} {token : Token} {tokens rest : Tokens} → Is Symbol.CloseBrace token → IsItem item (token ∷ tokens) rest → ⊥
 brace_no_item i (call n o x more close stop) = absurd (cc)
 brace_no_item i (fixes {kind = Kind.Int} k x e s stop) = absurd (cc)

@@ -244,6 +244,6 @@ can_at (At.Block reader) done h rules b items = then_finish (can_block reader) (
 can_at At.Items done h rules b items = can_items done h rules b items
 can_at (At.Item reader) done h rules b items = then_finish (can_item reader) (λ item. can_items done h rules b (items ++ item ∷ []))
 
--- some file goes on behind what has been read
+-- some file goes on after what has been read
 pub can_file : (reader : FileReader) → CanFinish (CompletesFile reader)
 can_file reader = can_at reader.at reader.done reader.head reader.rules reader.block reader.items

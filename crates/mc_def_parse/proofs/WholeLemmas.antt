@@ -16,7 +16,7 @@ use Rattle.mc_def_parse.specs.Faults.{IsStop, IsOnlyFile}
 use Rattle.mc_def_parse.proofs.Ends.{nothing_behind}
 use Rattle.mc_def_parse.proofs.Viable.{CanFinish}
 
--- what completes the reader is what a file has behind these tokens
+-- what completes the reader is what a file has after these tokens
 pub record Behind (before : Tokens) (now : Tokens → Tokens → List DefText → Type 0) : Type 0 where
   pub forward : (more rest : Tokens) (all : List DefText) → MoreDefs [] (before ++ more) rest all → now more rest all
   pub backward : (more rest : Tokens) (all : List DefText) → now more rest all → MoreDefs [] (before ++ more) rest all
@@ -83,7 +83,7 @@ no_more : (more : Tokens) → more ++ [] ≡ [] → more ≡ []
 no_more [] e = refl
 no_more (token ∷ more) e = absurd (cc)
 
--- a reader behind the whole text can't be completed
+-- a reader after the whole text can't be completed
 pub never : {now : Tokens → Tokens → List DefText → Type 0} (tokens : Tokens) (i : ℕ) → EndsOnce tokens → length tokens ≤ i → Behind (take i tokens) now → CanFinish now → ⊥
 never tokens i ends above b f =
     let u = b.backward (f.more ++ []) [] f.tree (f.completes []) in

@@ -13,7 +13,7 @@ use Rattle.mc_def_parse.specs.Grammar.{Is, MoreContents}
 use Rattle.mc_def_parse.specs.Steps.{StepIs, First}
 use Rattle.mc_def_parse.specs.Readers.{Stops}
 
--- behind the first contents: more of them, `}` and `;`
+-- after the first contents: more of them, `}` and `;`
 abbrev pub ContentsStop : Name → List Content → Tokens → Tokens → Block → Type 0
 ContentsStop shape cs tokens rest block = (all : List Content) × (close : Token) × (stop : Token)
     × MoreContents cs tokens all (close ∷ stop ∷ rest) × Is Symbol.CloseBrace close × Is Symbol.Semicolon stop

@@ -15,7 +15,7 @@ pub record CanBegin (tokens : Tokens) : Type 0 where
   pub file : List DefText
   pub spells : IsFile file (tokens ++ more)
 
--- the tokens go on with this one behind those that some file begins with, and no file does
+-- the tokens go on with this one after those that some file begins with, and no file does
 pub record StopsAt (tokens before : Tokens) (token : Token) : Type 0 where
   pub after : Tokens
   pub split : tokens ≡ before ++ token ∷ after

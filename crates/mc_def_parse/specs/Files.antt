@@ -21,32 +21,32 @@ use Rattle.mc_def_parse.specs.Readers.{NameStops, CompletesItem}
 use Rattle.mc_def_parse.specs.Blocks.{CompletesBlock}
 use Rattle.mc_def_parse.specs.Heads.{CompletesHead}
 
--- behind these rules of a definition, which follows these ones: more rules, `}`, and more definitions
+-- after these rules of a definition, which follows these ones: more rules, `}`, and more definitions
 abbrev pub RulesEnd : List DefText → Head → List RuleText → Tokens → Tokens → List DefText → Type 0
 RulesEnd done head rules tokens rest file = (all : List RuleText) × (close : Token) × (mid : Tokens)
     × MoreRules rules tokens all (close ∷ mid) × Is Symbol.CloseBrace close
     × MoreDefs (done ++ record { head = head; rules = all } ∷ []) mid rest file
 
--- behind the block and these items of a rule
+-- after the block and these items of a rule
 abbrev pub ItemsEnd : List DefText → Head → List RuleText → Option Block → List Item → Tokens → Tokens → List DefText → Type 0
 ItemsEnd done head rules block items tokens rest file = (all : List Item) × (close : Token) × (mid : Tokens)
     × MoreItems items tokens all (close ∷ mid) × Is Symbol.CloseBrace close
     × RulesEnd done head (rules ++ record { block = block; items = all } ∷ []) mid rest file
 
--- behind the `{` of a rule
+-- after the `{` of a rule
 abbrev pub BodyEnds : List DefText → Head → List RuleText → Tokens → Tokens → List DefText → Type 0
 BodyEnds done head rules tokens rest file = (body : RuleText) × (close : Token) × (mid : Tokens)
     × IsRuleBody body tokens (close ∷ mid) × Is Symbol.CloseBrace close
     × RulesEnd done head (rules ++ body ∷ []) mid rest file
 
--- behind `rule`, and before it
+-- after `rule`, and before it
 abbrev pub BraceEnds : List DefText → Head → List RuleText → Tokens → Tokens → List DefText → Type 0
 BraceEnds done head rules = First (Is Symbol.OpenBrace) (λ brace. BodyEnds done head rules)
 
 abbrev pub FirstRuleEnds : List DefText → Head → Tokens → Tokens → List DefText → Type 0
 FirstRuleEnds done head = First (IsWord (codes "rule")) (λ word. BraceEnds done head [])
 
--- behind `this ->`, where a block goes on, and within it
+-- after `this ->`, where a block goes on, and within it
 abbrev pub BlockEnds : List DefText → Head → List RuleText → Block → Tokens → Tokens → List DefText → Type 0
 BlockEnds done head rules block = ItemsEnd done head rules (Some block) []
 
@@ -54,7 +54,7 @@ BlockEnds done head rules block = ItemsEnd done head rules (Some block) []
 abbrev pub ItemEnds : List DefText → Head → List RuleText → Option Block → List Item → Item → Tokens → Tokens → List DefText → Type 0
 ItemEnds done head rules block items item = ItemsEnd done head rules block (items ++ item ∷ [])
 
--- behind the name `this` at the start of a rule: a block or an item
+-- after the name `this` at the start of a rule: a block or an item
 abbrev pub ThisGoesOn : List DefText → Head → List RuleText → Name → Tokens → Tokens → List DefText → Type 0
 ThisGoesOn done head rules this tokens rest file = First (Is Symbol.Arrow)
     (λ arrow. Then (CompletesBlock BlockReader.Shape) (BlockEnds done head rules)) tokens rest file
@@ -76,7 +76,7 @@ CompletesAt (At.Item reader) done head rules block items = Then (CompletesItem r
 abbrev pub CompletesFile : FileReader → Tokens → Tokens → List DefText → Type 0
 CompletesFile reader = CompletesAt reader.at reader.done reader.head reader.rules reader.block reader.items
 
--- what a reader that steps in place makes of a token, of what completes it now and of the reader behind the token; it closes at the end alone, with its definitions
+-- what a reader that steps in place makes of a token, of what completes it now and of the reader after the token; it closes at the end alone, with its definitions
 abbrev pub FileTookIs : (now : Tokens → Tokens → List DefText → Type 0) → FileReader → Token → Took → Type 0
 FileTookIs now behind token Took.Taken = Takes now (CompletesFile behind) token
 FileTookIs now behind token Took.Closed = Closes now token behind.done × (token.kind ≡ TokenKind.End)

@@ -57,7 +57,7 @@ pub data IsSum : Sum → Tokens → Tokens → Type 0 where
   taken : {n : ℕ} {x minus digits : Token} {rest : Tokens} → Is Symbol.Name x → Is Symbol.Minus minus
       → IsNumber digits n → IsSum (Sum.Moved (name_of x) (negative n digits)) (x ∷ minus ∷ digits ∷ rest) rest
 
--- behind these names: `,` and a name, as often as one likes
+-- after these names: `,` and a name, as often as one likes
 pub data MoreNames : List Name → Tokens → List Name → Tokens → Type 0 where
   last_name : {xs : List Name} {rest : Tokens} → MoreNames xs rest xs rest
   next_name : {xs all : List Name} {comma x : Token} {tokens rest : Tokens} → Is Symbol.Comma comma
@@ -114,13 +114,13 @@ pub data IsBlock : Block → Tokens → Tokens → Type 0 where
         end = close.place;
       }) (this ∷ arrow ∷ shape ∷ opening ∷ f ∷ colon ∷ x ∷ tokens) rest
 
--- behind these items: more of them
+-- after these items: more of them
 pub data MoreItems : List Item → Tokens → List Item → Tokens → Type 0 where
   last_item : {items : List Item} {rest : Tokens} → MoreItems items rest items rest
   next_item : {items all : List Item} {item : Item} {tokens mid rest : Tokens} → IsItem item tokens mid
       → MoreItems (items ++ item ∷ []) mid all rest → MoreItems items tokens all rest
 
--- what stands between the braces of a rule: items, behind a block or none
+-- what stands between the braces of a rule: items, after a block or none
 pub data IsRuleBody : RuleText → Tokens → Tokens → Type 0 where
   bare : {items : List Item} {tokens rest : Tokens} → MoreItems [] tokens items rest
       → IsRuleBody (record { block = None; items = items }) tokens rest
@@ -137,7 +137,7 @@ pub data MoreRules : List RuleText → Tokens → List RuleText → Tokens → T
   next_rule : {rs all : List RuleText} {r : RuleText} {tokens mid rest : Tokens} → IsRule r tokens mid
       → MoreRules (rs ++ r ∷ []) mid all rest → MoreRules rs tokens all rest
 
--- behind these parameters: `,`, a kind and a name, as often as one likes
+-- after these parameters: `,`, a kind and a name, as often as one likes
 abbrev pub parameter : Kind → Token → Parameter
 parameter kind x = record { kind = kind; name = name_of x }
 
@@ -161,7 +161,7 @@ pub data IsDef : DefText → Tokens → Tokens → Type 0 where
       → IsHead h tokens mid → IsRule r mid behind → MoreRules (r ∷ []) behind rs (close ∷ rest)
       → Is Symbol.CloseBrace close → IsDef (record { head = h; rules = rs }) tokens rest
 
--- behind these definitions: more of them, and the end
+-- after these definitions: more of them, and the end
 pub data MoreDefs : List DefText → Tokens → Tokens → List DefText → Type 0 where
   end_defs : {ds : List DefText} {end : Token} {rest : Tokens} → end.kind ≡ TokenKind.End → MoreDefs ds (end ∷ rest) rest ds
   next_def : {ds all : List DefText} {d : DefText} {tokens mid rest : Tokens} → IsDef d tokens mid

@@ -13,7 +13,7 @@ use Rattle.mc_def_parse.specs.declared.step.Step.{Step}
 use Rattle.mc_def_parse.specs.Grammar.{Is, IsWord, IsKind, MoreParameters, parameter}
 use Rattle.mc_def_parse.specs.Steps.{StepIs, First, Gives}
 
--- behind the first parameters: more of them, `)` and `{`
+-- after the first parameters: more of them, `)` and `{`
 abbrev pub ParametersEnd : Name → List Parameter → Tokens → Tokens → Head → Type 0
 ParametersEnd p ps tokens rest head = (all : List Parameter) × (close : Token) × (brace : Token)
     × MoreParameters ps tokens all (close ∷ brace ∷ rest) × Is Symbol.Close close × Is Symbol.OpenBrace brace

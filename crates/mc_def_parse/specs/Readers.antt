@@ -34,7 +34,7 @@ abbrev pub BoundStops : Name → Bound → Tokens → Tokens → Item → Type 0
 BoundStops x b tokens rest item = (m : Number) × (stop : Token) × IsNum m tokens (stop ∷ rest)
     × Is Symbol.Semicolon stop × (item ≡ Bounds x b m)
 
--- behind the first arguments: more of them, `)` and `;`
+-- after the first arguments: more of them, `)` and `;`
 abbrev pub NamesStop : Name → List Name → Tokens → Tokens → Item → Type 0
 NamesStop p xs tokens rest item = (all : List Name) × (close : Token) × (stop : Token)
     × MoreNames xs tokens all (close ∷ stop ∷ rest) × Is Symbol.Close close × Is Symbol.Semicolon stop
@@ -48,7 +48,7 @@ NameThenStops p xs = First (Is Symbol.Name) (λ x. NamesStop p (xs ++ name_of x 
 abbrev pub FixedStops : Kind → Name → Tokens → Tokens → Item → Type 0
 FixedStops kind x = First (Is Symbol.Equal) (λ equal. SumStops x (Fixes kind))
 
--- behind the first name of an item
+-- after the first name of an item
 abbrev pub NameStopsBy : Name → Symbol → Token → Tokens → Tokens → Item → Type 0
 NameStopsBy x Symbol.Open token tokens rest item = NameThenStops x [] tokens rest item
 NameStopsBy x Symbol.Equal token tokens rest item = SumStops x Equals tokens rest item
@@ -74,7 +74,7 @@ moved_sum x r base minus n digits = Relates x r (Sum.Moved base (record { minus 
 abbrev pub signed_bound : Name → Bound → Place → ℕ → Token → Item
 signed_bound x b place n digits = Bounds x b (record { minus = true; value = n; place = place })
 
--- behind the name of a sum
+-- after the name of a sum
 abbrev pub BaseStopsBy : Name → Relation → Name → Symbol → Token → Tokens → Tokens → Item → Type 0
 BaseStopsBy x r base Symbol.Plus token = NumberStops (moved_sum x r base false)
 BaseStopsBy x r base Symbol.Minus token = NumberStops (moved_sum x r base true)

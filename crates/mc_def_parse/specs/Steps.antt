@@ -24,7 +24,7 @@ StepIs completes give now token Stuck = IsStuckAt now token
 abbrev pub Then : {A X : Type 0} → (Tokens → Tokens → A → Type 0) → (A → Tokens → Tokens → X → Type 0) → Tokens → Tokens → X → Type 0
 Then {A} first second tokens rest x = (a : A) × (mid : Tokens) × first tokens mid a × second a mid rest x
 
--- the first token is such a one, and what is behind it goes on as the second says
+-- the first token is such a one, and what is after it goes on as the second says
 abbrev pub First : {X : Type 0} → (Token → Type 0) → (Token → Tokens → Tokens → X → Type 0) → Tokens → Tokens → X → Type 0
 First such second [] rest x = ⊥
 First such second (token ∷ tokens) rest x = such token × second token tokens rest x

@@ -1,4 +1,4 @@
-// The blocks of rules, behind `this ->` up to the `;`.
+// The blocks of rules, after `this ->` up to the `;`.
 ghost use Rattle.mc_def_parse.specs.Blocks.{BlockStepIs, block_of};
 ghost use Rattle.mc_def_parse.specs.Symbols.{symbol_of};
 ghost use Rattle.std.specs.Prelude.{◌≡◌, IfOk};
@@ -41,21 +41,21 @@ impl<'t> WholeBlock<'t> {
 pub enum BlockReader<'t> {
     /// Before the struct.
     Shape,
-    /// Behind the struct.
+    /// After the struct.
     Opening(&'t Token),
     /// Before a field.
     Field(&'t Token, Items<Content>),
-    /// Behind a field.
+    /// After a field.
     Colon(&'t Token, Items<Content>, &'t Token),
     /// Before the name of what a field holds.
     Content(&'t Token, Items<Content>, &'t Token),
-    /// Behind a field and the name of what it holds.
+    /// After a field and the name of what it holds.
     Contents(&'t Token, Items<Content>),
     /// Before the `;`.
     Whole(WholeBlock<'t>),
 }
 
-/// Lets go of what has been read.
+/// Drops what has been read.
 impl Drop for BlockReader<'_> {
     fn drop(self) {
         match self {

@@ -25,27 +25,27 @@ use std::mem;
 pub enum At<'t> {
     /// Before a definition or the end.
     Outside,
-    /// Behind `def`.
+    /// After `def`.
     Head(HeadReader<'t>),
-    /// Behind the head of a definition.
+    /// After the head of a definition.
     FirstRule,
-    /// Behind a rule.
+    /// After a rule.
     Rules,
-    /// Behind `rule`.
+    /// After `rule`.
     Brace,
-    /// Behind the `{` of a rule.
+    /// After the `{` of a rule.
     Start,
-    /// Behind the name `this` there.
+    /// After the name `this` there.
     This(&'t Token),
-    /// Behind `this ->`.
+    /// After `this ->`.
     Block(BlockReader<'t>),
-    /// Behind a block or an item.
+    /// After a block or an item.
     Items,
     /// Within an item.
     Item(ItemReader<'t>),
 }
 
-/// Lets go of what has been read. What replaces a place calls this.
+/// Drops what has been read. What replaces a place calls this.
 impl Drop for At<'_> {
     fn drop(self) {
         match self {

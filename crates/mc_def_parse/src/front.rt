@@ -1,4 +1,4 @@
-// The heads of definitions, behind `def` up to the `{`.
+// The heads of definitions, after `def` up to the `{`.
 ghost use Rattle.mc_def_parse.specs.Heads.{HeadStepIs, head_of};
 ghost use Rattle.mc_def_parse.specs.Grammar.{IsWord};
 ghost use Rattle.mc_def_parse.specs.Symbols.{symbol_of};
@@ -36,21 +36,21 @@ impl<'t> WholeHead<'t> {
 pub enum HeadReader<'t> {
     /// Before the name.
     Name,
-    /// Behind the name.
+    /// After the name.
     Opening(&'t Token),
     /// Before `this`.
     This(&'t Token),
-    /// Behind a parameter.
+    /// After a parameter.
     Parameters(&'t Token, Items<Parameter>),
     /// Before a parameter.
     Kind(&'t Token, Items<Parameter>),
-    /// Behind the kind of a parameter.
+    /// After the kind of a parameter.
     Parameter(&'t Token, Items<Parameter>, Kind),
     /// Before the `{`.
     Brace(WholeHead<'t>),
 }
 
-/// Lets go of what has been read.
+/// Drops what has been read.
 impl Drop for HeadReader<'_> {
     fn drop(self) {
         match self {

@@ -23,7 +23,7 @@ pub enum WholeItem<'t> {
     Bound(&'t Token, Bound, Number),
 }
 
-/// Lets go of what has been read.
+/// Drops what has been read.
 impl Drop for WholeItem<'_> {
     fn drop(self) {
         match self {
@@ -66,33 +66,33 @@ impl<'t> WholeItem<'t> {
 /// What has been read of an item, by the tokens of its names.
 pub enum ItemReader<'t> {
     Start,
-    /// Behind `int`.
+    /// After `int`.
     Int,
-    /// Behind a first name, which is a kind where it is `ptr` and a name follows.
+    /// After a first name, which is a kind where it is `ptr` and a name follows.
     Name(&'t Token),
-    /// Behind a kind and a name.
+    /// After a kind and a name.
     Fixed(Kind, &'t Token),
     /// Before an argument.
     Argument(&'t Token, Items<Name>),
-    /// Behind an argument.
+    /// After an argument.
     Arguments(&'t Token, Items<Name>),
     /// Before a sum.
     Sum(&'t Token, Relation),
-    /// Behind the `-` of a number.
+    /// After the `-` of a number.
     Negative(&'t Token, Relation, Place),
-    /// Behind the name of a sum.
+    /// After the name of a sum.
     Base(&'t Token, Relation, &'t Token),
-    /// Behind the `+` or `-` of a sum; true is `-`.
+    /// After the `+` or `-` of a sum; true is `-`.
     Offset(&'t Token, Relation, &'t Token, bool),
     /// Before a bound.
     Bound(&'t Token, Bound),
-    /// Behind the `-` of a bound.
+    /// After the `-` of a bound.
     NegativeBound(&'t Token, Bound, Place),
     /// Before the `;`.
     Whole(WholeItem<'t>),
 }
 
-/// Lets go of what has been read.
+/// Drops what has been read.
 impl Drop for ItemReader<'_> {
     fn drop(self) {
         match self {
@@ -187,7 +187,7 @@ fn behind_name<'t>(alloc: Global, name: &'t Token, token: &'t Token, symbol: Sym
     }
 }
 
-// A name behind a name: the first one is the kind `ptr`.
+// A name after a name: the first one is the kind `ptr`.
 fn behind_pointer<'t>(name: &'t Token, token: &'t Token) -> ItemStep<'t>
     requires { symbol_of token.now ≡ Symbol.Name }
     ensures { ItemStepIs (ItemReader.Name name.entry) token.now result }

@@ -28,7 +28,6 @@ impl Refusal {
     {
         print_cause(out, self.cause)?;
         out.extend_from_slice(b" at ")?;
-        print_place(alloc, out, self.place)?;
-        Ok(())
+        print_place(alloc, out, self.place)
     }
 }

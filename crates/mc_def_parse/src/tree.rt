@@ -69,7 +69,7 @@ pub struct Parameter {
     pub name: Name,
 }
 
-/// The name of a definition and its parameters behind `this`.
+/// The name of a definition and its parameters after `this`.
 #[derive(Drop)]
 pub struct Head {
     pub name: Name,

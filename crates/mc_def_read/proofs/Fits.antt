@@ -229,7 +229,7 @@ record BodyFits (params : List (List Kind)) (front : ℕ) (body : Body) : Type 0
   atoms : AtomsFit body.scope.kinds front body.atoms
   calls : Each (Calls params body.scope.kinds) body.calls
 
--- a body behind an item: names are added at the end, and calls stand in a rule with a block alone
+-- a body after an item: names are added at the end, and calls stand in a rule with a block alone
 record Goes (context : Context) (guarded : Bool) (front : ℕ) (body next : Body) : Type 0 where
   more : List Kind
   grown : next.scope.kinds ≡ body.scope.kinds ++ more

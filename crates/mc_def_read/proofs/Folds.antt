@@ -7,12 +7,12 @@ use Rattle.mc_def_parse.specs.declared.fault.DefFault.{DefFault}
 use Rattle.mc_def_parse.specs.declared.fault.DefFault.TheVariants.{Refused, NoMemory}
 use Rattle.mc_def_read.specs.Judging.{Judged, ◌>>=◌, Finds}
 
--- what is behind some items, with these before it
+-- what is after some items, with these before it
 abbrev pub behind : {X : Type 0} → List X → Judged (List X) → Judged (List X)
 behind done (Ok more) = Ok (done ++ more)
 behind done (Err fault) = Err fault
 
--- the first item behind a place
+-- the first item after a place
 pub drop_at : {X : Type 0} (xs : List X) (i : ℕ) (x : X) → i < length xs → x ≡ get_or xs i x → drop i xs ≡ x ∷ drop (i + 1) xs
 drop_at [] i x below is = absurd (omega arith)
 drop_at (y ∷ xs) zero x below is = rw is refl

@@ -1,23 +1,8 @@
 -- First places in lists, and what stands at a place.
 use native.Mathlib.Omega.{arith}
-use Rattle.std.proofs.Common.{◌≡◌, ℕ, zero, suc, List, [], ◌∷◌, ◌++◌, ◌+◌, refl, ap, Bool, true, false, cond, not, length, nat_lt}
-use Rattle.std.specs.List.{prefix_len}
+use Rattle.std.proofs.Common.{◌≡◌, ℕ, zero, suc, List, [], ◌∷◌, ◌++◌, ◌+◌, refl, ap, Bool, true, false, cond, length}
 use Rattle.std.specs.Prelude.{Option, Some, None, map, position, option_map, slice_get}
-
-later_place : (n len : ℕ) (b c : Bool) → nat_lt (1 + n) (suc len) ≡ b → nat_lt n len ≡ c → cond b (Some (1 + n)) None ≡ option_map (λ i. suc i) (cond c (Some n) None)
-later_place n len true true p q = ap (λ i. Some i) (omega arith)
-later_place n len false false p q = refl
-later_place n len true false p q = grind arith
-later_place n len false true p q = grind arith
-
-position_step : (b : Bool) (n len : ℕ)
-    → cond (nat_lt (cond (not b) (1 + n) 0) (suc len)) (Some (cond (not b) (1 + n) 0)) None ≡ cond b (Some 0) (option_map (λ i. suc i) (cond (nat_lt n len) (Some n) None))
-position_step true n len = let first : nat_lt 0 (suc len) ≡ true = grind arith in rw first refl
-position_step false n len = later_place n len _ _ refl refl
-
--- the first place, at the head or behind it
-position-cons : {X : Type 0} (p : X → Bool) (x : X) (xs : List X) → position p (x ∷ xs) ≡ cond (p x) (Some 0) (option_map (λ i. suc i) (position p xs))
-position-cons p x xs = position_step (p x) (prefix_len (λ y. not (p y)) xs) (length xs)
+use Rattle.mc_c_syntax.proofs.NamesLemmas.Positions.{position-cons}
 
 front_step : (b : Bool) (o o' : Option ℕ) (i : ℕ) → ((j : ℕ) → o ≡ Some j → o' ≡ Some j) → cond b (Some 0) (option_map (λ k. suc k) o) ≡ Some i → cond b (Some 0) (option_map (λ k. suc k) o') ≡ Some i
 front_step true o o' i h e = e
@@ -34,7 +19,7 @@ behind_step true o o' i h e = absurd (cc)
 behind_step false None o' i h e = rw (h refl) refl
 behind_step false (Some j) o' i h e = absurd (cc)
 
--- and one among the others comes behind the first
+-- and one among the others comes after the first
 pub position_behind : {X : Type 0} (p : X → Bool) (xs ys : List X) (j : ℕ) → position p xs ≡ None → position p ys ≡ Some j → position p (xs ++ ys) ≡ Some (length xs + j)
 position_behind p [] ys j e f = let none : 0 + j ≡ j = omega arith in rw none f
 position_behind p (x ∷ xs) ys j e f =
@@ -55,7 +40,7 @@ pub position_map : {X Y : Type 0} (p : Y → Bool) (f : X → Y) (xs : List X) �
 position_map p f [] = refl
 position_map p f (x ∷ xs) = rw (position-cons p (f x) (map f xs), position-cons (λ y. p (f y)) x xs) (ap (λ o. cond (p (f x)) (Some 0) (option_map (λ i. suc i) o)) (position_map p f xs))
 
--- what stands at a place stands there with more behind
+-- what stands at a place stands there with more after
 pub get_front : {X : Type 0} (xs ys : List X) (i : ℕ) (x : X) → slice_get xs i ≡ Some x → slice_get (xs ++ ys) i ≡ Some x
 get_front [] ys i x e = absurd (cc)
 get_front (y ∷ xs) ys zero x e = e

@@ -26,7 +26,7 @@ place_of Lexical.NoMemory = None
 abbrev pub syntax_at : Place → Refusal
 syntax_at place = record { cause = Cause.Syntax; place = place }
 
--- what a fault of bytes is told as
+-- what a fault of bytes is known as
 abbrev pub syntax_fault : Option Place → DefFault
 syntax_fault (Some place) = Refused (syntax_at place)
 syntax_fault None = NoMemory

@@ -4,7 +4,7 @@ use denote.Bor.{Bor}
 use Rattle.mc_def_read.specs.declared.words.Order.{Order}
 use Rattle.mc_def_read.specs.declared.words.Order.TheVariants.{Few, Many}
 
--- what is behind references
+-- what is after references
 abbrev pub behind : List (Bor (List ℕ)) → List (List ℕ)
 behind words = map (λ word. word.now) words
 

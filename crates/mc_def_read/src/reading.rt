@@ -28,7 +28,7 @@ fn place_of(fault: LexFault) -> Option<Place>
     }
 }
 
-// What a fault of bytes is told as.
+// What a fault of bytes is known as.
 fn of_lexical(fault: LexFault) -> DefFault
     ensures { result ≡ syntax_fault (place_of fault) }
 {

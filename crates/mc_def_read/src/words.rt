@@ -23,7 +23,7 @@ pub struct Words<'a> {
     order: Order<'a>,
 }
 
-/// Lets go of its parts. What holds one calls this.
+/// Drops its parts. What holds one calls this.
 impl Drop for Words<'_> {
     fn drop(self) {
         let Words { order } = self;

@@ -39,7 +39,7 @@ fn has_ended(proof: Proof<'_>) -> bool
     }
 }
 
-/// Whether these lines, behind the header, make a valid certificate.
+/// Whether these lines, after the header, make a valid certificate.
 fn ends(alloc: Global, flow: &Flow, defs: &Defs, lines: &[Line]) -> Result<bool, NoMemory>
     requires { IsValid flow.now defs.now }
     ensures { IfOk result (λ is. (is ≡ true) ↔ IsValidCertificate flow.now defs.now (Header One Certificate ∷ lines.now)) }

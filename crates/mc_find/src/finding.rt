@@ -48,7 +48,7 @@ const fn plans(keys: usize) -> [Plan; 10] {
     ]
 }
 
-/// One attempt, for which at most so many lines are left; what it takes in vain is left no more. What is no valid
+/// One attempt, for which at most so many lines are left; what it takes without success is left no more. What is no valid
 /// certificate counts as nothing.
 fn try_one(
     alloc: Global,
@@ -80,7 +80,7 @@ fn try_one(
     Ok(None)
 }
 
-/// How many attempts may take all their lines in vain.
+/// How many attempts may take all their lines without success.
 const WHOLE: u64 = 3;
 
 /// The attempts one after the other: the lines of the first certificate that is found.

@@ -8,8 +8,6 @@ pub mod analysis;
 mod cuts;
 mod finding;
 pub mod matching;
-#[cfg(test)]
-mod tests;
 pub mod walks;
 
 pub use crate::walks::Limits;

@@ -7,7 +7,8 @@ mod tasks;
 mod trail;
 
 pub use crate::paths::{Branch, Paths};
-pub use finding::{cover, seg_cover};
+pub use finding::cover;
 pub use making::{MadeOf, make};
-pub use names::{own_node, plain};
+pub use mc_cover::search::plain;
+pub use names::own_node;
 pub use trail::Trail;

@@ -9,7 +9,7 @@ use mc_state::graph::Edge;
 use mc_symbolic::State;
 use std::alloc::Global;
 
-/// How many blocks one behind the other are looked at.
+/// How many blocks one after the other are looked at.
 const DOWNWARD: usize = 32;
 
 /// A block by its place, with a rule and the first call of the predicate there.
@@ -161,7 +161,7 @@ fn above(
     params_of(alloc, def, names.as_slice())
 }
 
-/// The bodies one behind the other from a node on, and what is told of the arguments behind the last.
+/// The bodies one after the other from a node on, and what is known of the arguments after the last.
 fn descend(
     alloc: Global,
     state: &State,

@@ -18,7 +18,7 @@ mod trying;
 mod whole;
 
 pub use asked::args_of;
-pub use mc_find_paths::trail::{Branch, MadeOf, Paths, Trail, cover, make, plain, seg_cover};
+pub use mc_find_paths::trail::{Branch, MadeOf, Paths, Trail, cover, make, plain};
 pub use shrinking::{note, shrink};
 pub use survey::{Manner, Step, Survey};
 pub use taken::taken_by;

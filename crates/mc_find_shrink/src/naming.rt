@@ -94,7 +94,11 @@ pub fn learn_all(names: &mut Vec<Option<Term>>, rule: &Rule, args: &[u64], terms
 fn push_contents(names: &mut Vec<Option<Term>>, edge: &Edge) -> Result<(), NoMemory> {
     if let Edge::Block { fields, .. } = edge {
         for field in fields.as_slice() {
-            names.push(field.map(plain))?;
+            let term = match field {
+                Some(node) => Some(plain(*node)),
+                None => None,
+            };
+            names.push(term)?;
         }
     }
     Ok(())

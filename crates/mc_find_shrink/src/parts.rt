@@ -8,7 +8,8 @@ use crate::whole::push_back_terms;
 use crate::{Manner, Survey};
 use mc_base::{NoMemory, NodeId, PredId};
 use mc_cover::Mark;
-use mc_find_paths::trail::{plain, seg_cover};
+use mc_cover::search::seg_cover;
+use mc_find_paths::trail::plain;
 use mc_find_view::sight::Nodes;
 use mc_flow::defs::{Call, Def, Rule};
 use mc_state::Term;
@@ -85,9 +86,13 @@ impl Try<'_> {
         let Some(ends) = self.ends(alloc, args)? else {
             return Ok(None);
         };
+        let state = self.nodes.state;
+        if state.is_false() {
+            return Ok(None);
+        }
         let found = seg_cover(
             alloc,
-            self.nodes.state,
+            state,
             self.manner.sight.defs,
             self.survey.kept_ids.as_slice(),
             self.pred,

@@ -21,7 +21,7 @@ pub enum Step {
 
 /// How a state is folded: what is looked at, the predicates in the order in which they are wanted, those that the
 /// program asserts, how far folding goes, how many fields before a live variable's node a block stays too, and by how
-/// much the numbers of a new segment are more than is guessed, which leaves room for a later change behind it.
+/// much the numbers of a new segment are more than is guessed, which leaves room for a later change after it.
 #[derive(Clone, Copy)]
 pub struct Manner<'a> {
     pub sight: Sight<'a>,

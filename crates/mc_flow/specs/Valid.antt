@@ -98,7 +98,7 @@ pub record IsSkip (points : List Point) (p : PointId) : Type 0 where
   pub next : PointId
   pub skips : option_map (λ point. point.code) (slice_get points p.0) ≡ Some (Skip next)
 
--- a point may go on to this one: it is there, and lies behind it or is a loop head
+-- a point may go on to this one: it is there, and lies after it or is a loop head
 abbrev pub GoesOn : Flow → ℕ → PointId → Type 0
 GoesOn flow p q = (q.0 < length flow.points) × ((p < q.0) ⊎ Contains flow.heads q)
 

@@ -83,7 +83,7 @@ no_more : {X : Type 0} (xs : List X) → xs ++ [] ≡ xs
 no_more [] = refl
 no_more (x ∷ xs) = ap (λ r. x ∷ r) (no_more xs)
 
--- pairs with more behind them, all of which are proper; each of these is listed
+-- pairs with more after them, all of which are proper; each of these is listed
 pub record More (lk rk : Kinds) (rest new : Pairs) : Type 0 where
   pub more : Pairs
   pub is : with_pairs ((null, null) ∷ rest) new ≡ (null, null) ∷ (rest ++ more)

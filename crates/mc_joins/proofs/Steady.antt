@@ -1,4 +1,4 @@
--- Steps of joins keep states well made, and depend on what is derived alone.
+-- Steps of joins keep states well made, and depend on what is entailed alone.
 use mathlib.Core.Path.{fun_ext}
 use Rattle.std.proofs.Common.{◌≡◌, List, [], ◌∷◌, Bool, true, false, Option, Some, None, map, slice_get, refl, ap, sym, ◌∙◌, subst}
 use Rattle.std.specs.Prelude.{◌&&◌, ◌||◌, Ok, Err, is_none, find, option_and_then, option_map, unwrap_or}
@@ -206,7 +206,7 @@ module _ (judged : SpareIsJudged) (stays : SpareStaysMade) (defs : List Def) (va
       step_made : (step : JoinStep) (k : Joining) → after_step basis j step ≡ Some k → BothMade k
       step_made step k is = let p = bind_some (λ (p : Pair). step_at basis j p step) (next_pair j) k is in at_made p.0 step k p.2
 
-  -- ---- what is derived decides
+  -- ---- what is entailed decides
 
   module _ (know other : State → Test) (tells : KnowsMade defs vars structs know) (also : KnowsMade defs vars structs other) where
     abbrev w : Basis

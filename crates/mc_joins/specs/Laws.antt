@@ -21,11 +21,11 @@ StuckIsEvery =
     (w : Basis) (j : Joining)
     → (is_stuck w j ≡ true) ↔ ((is_some (next_pair j) ≡ true) × ((step : JoinStep) → after_step w j step ≡ None))
 
--- the tests tell what is derived in each well-made state
+-- the tests tell what is entailed in each well-made state
 abbrev pub KnowsMade : List Def → List VarInfo → List StructInfo → (State → Test) → Type 0
 KnowsMade defs vars structs know = (s : State) → IsWellMade defs vars structs s → Tells (know s) s
 
--- a step of a join of well-made states depends on what is derived in states and on nothing else: there is one join
+-- a step of a join of well-made states depends on what is entailed in states and on nothing else: there is one join
 -- that it gives, or it does not apply, by whatever tests tell that
 abbrev pub StepsAreDetermined : Type 0
 StepsAreDetermined =
@@ -44,7 +44,7 @@ StepsKeepMade =
     → after_step (record { know = know; defs = defs }) j step ≡ Some next
     → IsWellMade defs vars structs next.left.state × IsWellMade defs vars structs next.right.state
 
--- so a list of steps is legal or not, and gives one join, by whatever tests tell what is derived
+-- so a list of steps is legal or not, and gives one join, by whatever tests tell what is entailed
 abbrev pub PrefixesAreDetermined : Type 0
 PrefixesAreDetermined =
     (defs : List Def) (vars : List VarInfo) (structs : List StructInfo) (know other : State → Test)

@@ -24,7 +24,7 @@ use Rattle.mc_cover.specs.Guessed.{first_edge, guess, summary_of}
 use Rattle.mc_cover.specs.Terms.{equal_terms}
 use Rattle.mc_joins.specs.Joinings.{Half, Joining, Pair, half, of_side, partner, free_edges}
 
--- what joins are judged by: what is derived in a state, and the definitions
+-- what joins are judged by: what is entailed in a state, and the definitions
 pub record Basis : Type 0 where
   pub know : State → Test
   pub defs : List Def
@@ -47,7 +47,7 @@ pub record Named : Type 0 where
 abbrev pub nodes_of_kind : State → Kind → List NodeId
 nodes_of_kind s kind = null ∷ map (λ k. k.0) (filter (λ k. same_kind k.1 kind) s.kinds)
 
--- a term's own node: the least of these that is derived equal to it
+-- a term's own node: the least of these that is entailed equal to it
 abbrev pub own_node : Basis → State → Kind → Term → Option NodeId
 own_node w s kind t = find (λ n. equal_terms (w.know s) t (plain n)) (nodes_of_kind s kind)
 

@@ -25,7 +25,7 @@ fn same_flag(a: bool, b: bool) -> bool
 
 /// Whether the renaming is a bijection of the nodes of two states under which both are the same: the nodes of
 /// variables, the kinds node by node, the edges with their ids, and the flag are the same, and the same atoms are
-/// derived. A node without an image stays.
+/// entailed. A node without an image stays.
 pub fn equal_under(state: &State, other: &State, renaming: &Renaming) -> bool
     ensures { IsTrue result ↔ AreSameBy (image renaming.now) state.now other.now }
 {

@@ -38,7 +38,7 @@ pub fn naming_joins()
         (Ind (node 1) lenlist_id (node 2 ∷ []) ∷ [])) }
 {}
 
-/// Where two variables are one list on one side, and a cell and the list behind it on the other, the first begins a
+/// Where two variables are one list on one side, and a cell and the list after it on the other, the first begins a
 /// segment to the second; on the side of the one list its edge counts at the second pair alone from then on.
 pub fn segment_joins()
     ensures right { after_steps by_atoms (begun at_start one_on) (J6 list_id Right 2 ∷ J2 ∷ [])

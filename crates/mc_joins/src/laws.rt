@@ -15,7 +15,7 @@ pub fn stuck_is_every()
     ensures { StuckIsEvery }
 {}
 
-/// A step of a join of well-made states gives one join at most, whatever tells what is derived in states, and leaves
+/// A step of a join of well-made states gives one join at most, whatever tells what is entailed in states, and leaves
 /// both states well made; so with lists of steps.
 pub fn steps_are_determined()
     ensures step { StepsAreDetermined }

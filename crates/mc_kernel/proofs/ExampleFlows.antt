@@ -15,7 +15,7 @@ use Rattle.mc_flow.specs.declared.instr.Instr.{Instr}
 use Rattle.mc_flow.specs.Valid.{IsValid, IsSkip, PointFits, FitsKinds, GoesOn, targets}
 use Rattle.mc_kernel.specs.Examples as ex
 use Rattle.mc_kernel.proofs.Lists.{contains_here}
-use Rattle.mc_kernel.proofs.Plain.{all_none, all_one, all_two}
+use Rattle.mc_rules_steps.proofs.ExampleFlow.{all_none, all_one, all_two}
 
 module _ (flow : Flow) where
   -- the points of a list fit from a number on

@@ -24,7 +24,8 @@ use Rattle.mc_kernel.specs.Instances.{Reads}
 use Rattle.mc_kernel.specs.Jumps.{Jumps}
 use Rattle.mc_kernel.proofs.ExampleFlows.{FitFrom, is_valid, to_one, to_none}
 use Rattle.mc_kernel.proofs.Lists.{contains_here}
-use Rattle.mc_kernel.proofs.Plain.{not_false, all_none, all_one, contains_one}
+use Rattle.mc_kernel.proofs.Plain.{not_false, contains_one}
+use Rattle.mc_rules_steps.proofs.ExampleFlow.{all_none, all_one}
 
 failing_fits : FitFrom failing_flow 0 failing_flow.points
 failing_fits = (

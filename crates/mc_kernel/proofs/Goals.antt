@@ -17,7 +17,7 @@ use Rattle.mc_state.specs.Fits.{IsBounded, NodesAscend}
 use Rattle.mc_state.specs.Stands.{AgreeBelow}
 use Rattle.mc_state.specs.Rules.{GoalHolds, GoalIsThere}
 use Rattle.mc_kernel.specs.Branches.{merged_goal}
-use Rattle.mc_kernel.proofs.Lists.{all_map}
+use Rattle.mc_state.proofs.Lists.{all_map}
 
 -- the numbers of these nodes lie below one
 abbrev pub AreBelow : ℕ → List NodeId → Type 0

@@ -21,12 +21,13 @@ use Rattle.mc_rules_steps.specs.Laws.{IsAt}
 use Rattle.mc_kernel.specs.Branches.{Path, Head, Setting, begins, roots}
 use Rattle.mc_kernel.specs.Instances.{Reads, stuck_by}
 use Rattle.mc_kernel.specs.Certificates.{CertificateIsSafe, LastPassFindsFaults, IsAtStuck, WrittenHead, AreHeads, states_of}
-use Rattle.mc_kernel.proofs.Lists.{all_left, all_right, all_append, all_of_map, all_map, contains_later, contains_none}
+use Rattle.mc_kernel.proofs.Lists.{all_of_map, contains_later, contains_none}
 use Rattle.mc_kernel.proofs.Visits.{SafeUpTo, no_steps, none_visited}
 use Rattle.mc_kernel.proofs.Claims.{IsFine, Holds, heads_hold}
 use Rattle.mc_kernel.proofs.Calculus.{CalculusLaws}
 use Rattle.mc_kernel.proofs.Soundness.{HeadsSafe, holds_by}
 use Rattle.mc_kernel.proofs.Lines.{sound}
+use Rattle.mc_state.proofs.Lists.{all_append, all_left, all_map, all_right}
 
 -- ---- where runs begin
 

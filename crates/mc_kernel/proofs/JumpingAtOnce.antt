@@ -7,7 +7,8 @@ use Rattle.mc_flow.specs.Defs.Examples.{defs}
 use Rattle.mc_pure.specs.Laws.{TrueIsNotFalse}
 use Rattle.mc_state.specs.declared.line.Form.TheVariants.{Certificate}
 use Rattle.mc_lines.specs.declared.cert.line.Line.{Line}
-use Rattle.mc_lines.specs.declared.cert.line.Line.TheVariants.{Header, Cut, S1, L13}
+use Rattle.mc_state.specs.declared.line.InstrRule.TheVariants.{S1}
+use Rattle.mc_lines.specs.declared.cert.line.Line.TheVariants.{Header, Cut, Step, L13}
 use Rattle.mc_state.specs.declared.line.Version.TheVariants.{One}
 use Rattle.mc_state.specs.RawStates.{state_of}
 use Rattle.mc_state.specs.State.{unknown}
@@ -25,7 +26,7 @@ setting = record { form = Certificate; cuts = ex.at 1 ∷ []; heads = (ex.at 1, 
 
 module _ (law : TrueIsNotFalse) where
   -- the second jump is from the head's own branch
-  reads : ReadsAtOnce failing_flow defs setting (S1 ∷ L13 0 (null ∷ []) [] ∷ L13 0 (null ∷ []) [] ∷ []) (roots failing_flow setting.heads)
+  reads : ReadsAtOnce failing_flow defs setting (Step S1 ∷ L13 0 (null ∷ []) [] ∷ L13 0 (null ∷ []) [] ∷ []) (roots failing_flow setting.heads)
   reads = (
     path_of (moved_to (ex.at 1) (unknown 0)) ∷ [],
     (record { plain = refl; open_still = refl; before_cut = inr refl }, (moved_to (ex.at 1) (unknown 0) ∷ [], record { q = ex.at 1; at = refl; consistent = entry_sound law; gives = refl }, refl)),
@@ -44,7 +45,7 @@ module _ (law : TrueIsNotFalse) where
   failing_is_accepted = record {
     cuts = ex.at 1 ∷ [];
     heads = (ex.at 1, failing_state) ∷ [];
-    rules = S1 ∷ L13 0 (null ∷ []) [] ∷ L13 0 (null ∷ []) [] ∷ [];
+    rules = Step S1 ∷ L13 0 (null ∷ []) [] ∷ L13 0 (null ∷ []) [] ∷ [];
     spelled = refl;
     cuts_are = failing_cuts;
     ordered = tt;

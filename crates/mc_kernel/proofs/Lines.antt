@@ -4,7 +4,6 @@ use Rattle.std.specs.Prelude.{Contains}
 use Rattle.std.specs.List.{AllByRecursion}
 use Rattle.mc_base.specs.declared.ids.EdgeId.{EdgeId}
 use Rattle.mc_base.specs.declared.ids.NodeId.{NodeId}
-use Rattle.mc_base.specs.declared.ids.PointId.{PointId}
 use Rattle.mc_base.specs.declared.plain.Atom.TheVariants.{Eq}
 use Rattle.mc_base.specs.Nodes.{Valuation}
 use Rattle.mc_flow.specs.Heap.Heap.{region_of}
@@ -13,8 +12,9 @@ use Rattle.mc_flow.specs.declared.defs.rules.Rule.{Rule}
 use Rattle.mc_flow.specs.Defs.Instances.{node_of}
 use Rattle.mc_flow.specs.declared.graph.Flow.{Flow}
 use Rattle.mc_flow.specs.Valid.{IsValid}
+use Rattle.mc_state.specs.declared.line.InstrRule.{InstrRule}
 use Rattle.mc_lines.specs.declared.cert.line.Line.{Line}
-use Rattle.mc_lines.specs.declared.cert.line.Line.TheVariants.{S1, S2, S3, S4, S5, S6, S7, S8, S9, S10, S11, S12, S13, S14, S15, S16, S17, S18, L1, L2, L3, L4, L5, L6, L7, L8, L9, L10, L11, L12, L13, L14, L15, C1}
+use Rattle.mc_lines.specs.declared.cert.line.Line.TheVariants.{Step, L1, L2, L3, L4, L5, L6, L7, L8, L9, L10, L11, L12, L13, L14, L15, C1}
 use Rattle.mc_state.specs.declared.graph.edge.Edge.TheVariants.{Ind, Seg}
 use Rattle.mc_state.specs.Graph.Graph.{without}
 use Rattle.mc_state.specs.State.{State, next_node, with_nodes, with_atoms, with_edges, with_only_edges}
@@ -23,9 +23,6 @@ use Rattle.mc_state.specs.Rules.{IsSound}
 use Rattle.mc_rules_logic.specs.Unfold.Unfolded.{UnfoldsInd, UnfoldsSeg, unfolded, unfolded_at, own_places}
 use Rattle.mc_rules_logic.specs.Back.Unfolded.{UnfoldsBack, unfolded_back}
 use Rattle.mc_rules_logic.specs.Fold.Folded.{folded}
-use Rattle.mc_rules_steps.specs.Next.{Next}
-use Rattle.mc_rules_steps.specs.Steps.{S1Is, S2Is, S3Is, S4Is, S5Is, S6Is, S7Is, S8Is, S9Is, S10Is, S11Is, S12Is, S13Is, S14Is, S15Is, S16Is, S17Is, S18Is}
-use Rattle.mc_rules_steps.specs.Laws as step
 use Rattle.mc_rules_steps.specs.Laws.{IsAt}
 use Rattle.mc_kernel.specs.Branches.{Path, Setting, closes_by}
 use Rattle.mc_kernel.specs.Jumps.{image_of}
@@ -67,9 +64,8 @@ module _ (flow : Flow) (defs : List Def) (g : Setting) (all : List Path) (laws :
   abbrev S : Path → List Path → Type 0
   S b succs = Sound flow defs g (IsAtStuck defs all) b succs
 
-  stepped : (Rule : Flow → PointId → State → List Next → Type 0) → ((p : PointId) (s : State) (next : List Next) → Rule flow p s next → step.IsStep flow p s next)
-      → (b : Path) (succs : List Path) → IsFine b → ByStep Rule flow g b succs → S b succs
-  stepped Rule is b succs fine i = by_step flow defs g (IsAtStuck defs all) laws valid b succs fine i.0.plain i.1.0 (is b.point b.state i.1.0 i.1.1) i.1.2
+  stepped : (rule : InstrRule) (b : Path) (succs : List Path) → IsFine b → ByStep rule flow g b succs → S b succs
+  stepped rule b succs fine i = by_step flow defs g (IsAtStuck defs all) laws valid b succs fine i.0.plain i.1.0 (rule, i.1.1) i.1.2
 
   logical : (b : Path) (closing : Bool) (states : List State) (succs : List Path) → IsFine b → succs ≡ map (kept b closing b.goal) states
       → IsSound defs b.state states × AllByRecursion IsBounded states → Grows b.state states → S b succs
@@ -83,34 +79,17 @@ module _ (flow : Flow) (defs : List Def) (g : Setting) (all : List Path) (laws :
 
   -- an instance of a line's rule is sound, where a branch that it marks as stuck is one of the list
   pub sound : (line : Line) (b : Path) (succs later : List Path) → IsFine b → ((x : Path) → Contains (stuck_by line b later) x → Contains all x) → IsInstance flow defs g line b succs → S b succs
-  sound S1 b succs later fine stuck i = stepped S1Is (λ p s next is. step.S1 is) b succs fine i
-  sound S2 b succs later fine stuck i = stepped S2Is (λ p s next is. step.S2 is) b succs fine i
-  sound S3 b succs later fine stuck i = stepped S3Is (λ p s next is. step.S3 is) b succs fine i
-  sound S4 b succs later fine stuck i = stepped S4Is (λ p s next is. step.S4 is) b succs fine i
-  sound S5 b succs later fine stuck i = stepped S5Is (λ p s next is. step.S5 is) b succs fine i
-  sound S6 b succs later fine stuck i = stepped S6Is (λ p s next is. step.S6 is) b succs fine i
-  sound S7 b succs later fine stuck i = stepped S7Is (λ p s next is. step.S7 is) b succs fine i
-  sound S8 b succs later fine stuck i = stepped S8Is (λ p s next is. step.S8 is) b succs fine i
-  sound S9 b succs later fine stuck i = stepped S9Is (λ p s next is. step.S9 is) b succs fine i
-  sound S10 b succs later fine stuck i = stepped S10Is (λ p s next is. step.S10 is) b succs fine i
-  sound S11 b succs later fine stuck i = stepped S11Is (λ p s next is. step.S11 is) b succs fine i
-  sound S12 b succs later fine stuck i = stepped S12Is (λ p s next is. step.S12 is) b succs fine i
-  sound S13 b succs later fine stuck i = stepped S13Is (λ p s next is. step.S13 is) b succs fine i
-  sound S14 b succs later fine stuck i = stepped S14Is (λ p s next is. step.S14 is) b succs fine i
-  sound S15 b succs later fine stuck i = stepped S15Is (λ p s next is. step.S15 is) b succs fine i
-  sound S16 b succs later fine stuck i = stepped S16Is (λ p s next is. step.S16 is) b succs fine i
-  sound S17 b succs later fine stuck i = stepped S17Is (λ p s next is. step.S17 is) b succs fine i
-  sound S18 b succs later fine stuck i = stepped S18Is (λ p s next is. step.S18 is) b succs fine i
+  sound (Step rule) b succs later fine stuck i = stepped rule b succs fine i
   sound (L1 edge) b succs later fine stuck i =
       let u = i.1 in logical b b.closing u.0 succs fine u.2 (laws.unfold_ind defs (accessed flow b) edge b.state u.0 fine.0 u.1) (ind_grows defs (accessed flow b) edge b.state u.0 u.1)
   sound (L2 edge) b succs later fine stuck i =
       let u = i.1 in logical b b.closing u.0 succs fine u.2 (laws.unfold_seg defs (accessed flow b) edge b.state u.0 fine.0 u.1) (seg_grows defs (accessed flow b) edge b.state u.0 u.1)
   sound (L15 edge) b succs later fine stuck i =
       let u = i.1 in logical b b.closing u.0 succs fine u.2 (laws.unfold_back defs (accessed flow b) edge b.state u.0 fine.0 u.1) (back_grows defs (accessed flow b) edge b.state u.0 u.1)
-  sound (L3 pred rule names block edges) b succs later fine stuck i =
-      let r = i.1 in logical b (closes b) i.0 succs fine i.2 (laws.fold_ind defs pred rule names block edges b.state i.0 fine.0 r) (one_grows b.state (folded b.state r.body.left (Ind r.body.this pred r.body.args)) i.0 (omega arith) r.gives)
-  sound (L4 pred rule names block edges call) b succs later fine stuck i =
-      let r = i.1 in logical b (closes b) i.0 succs fine i.2 (laws.fold_seg defs pred rule names block edges call b.state i.0 fine.0 r) (one_grows b.state (folded b.state r.body.left (Seg r.body.this r.body.args pred (node_of names r.open_call.at) (map (node_of names) r.open_call.args))) i.0 (omega arith) r.gives)
+  sound (L3 fold) b succs later fine stuck i =
+      let r = i.1 in logical b (closes b) i.0 succs fine i.2 (laws.fold_ind defs fold b.state i.0 fine.0 r) (one_grows b.state (folded b.state r.body.left (Ind r.body.this fold.pred r.body.args)) i.0 (omega arith) r.gives)
+  sound (L4 fold) b succs later fine stuck i =
+      let r = i.1 in logical b (closes b) i.0 succs fine i.2 (laws.fold_seg defs fold b.state i.0 fine.0 r) (one_grows b.state (folded b.state r.body.left (Seg r.body.this r.body.args fold.pred (node_of fold.names r.open_call.at) (map (node_of fold.names) r.open_call.args))) i.0 (omega arith) r.gives)
   sound (L5 first second) b succs later fine stuck i =
       let r = i.1 in logical b (closes b) i.0 succs fine i.2 (laws.close defs first second b.state i.0 fine.0 r) (one_grows b.state (folded b.state r.left (Ind r.at r.pred r.args)) i.0 (omega arith) r.gives)
   sound (L6 first second) b succs later fine stuck i =

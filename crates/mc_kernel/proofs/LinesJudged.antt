@@ -3,6 +3,7 @@ use Rattle.std.proofs.Common.{◌≡◌, ◌↔◌, ◌⊎◌, inl, inr, ℕ, ze
 use Rattle.std.specs.Prelude.{◌==◌, ◌||◌, Ok, Err, Contains, is_some, option_map, if◌then◌else◌}
 use Rattle.mc_base.specs.declared.ids.NodeId.{NodeId}
 use Rattle.mc_base.specs.declared.ids.PointId.{PointId}
+use Rattle.mc_state.specs.declared.line.InstrRule.{InstrRule}
 use Rattle.mc_lines.specs.declared.cert.line.Line.{Line}
 use Rattle.mc_lines.specs.declared.cert.line.Line.TheVariants as line
 use Rattle.mc_flow.specs.declared.defs.rules.Def.{Def}
@@ -20,8 +21,8 @@ use Rattle.mc_rules_logic.specs.Back.Laws as back
 use Rattle.mc_rules_logic.specs.Back.Judges.{unfolding_back}
 use Rattle.mc_rules_logic.specs.Back.Unfolded.{UnfoldsBack}
 use Rattle.mc_rules_steps.specs.JudgedLaws as step
-use Rattle.mc_rules_steps.specs.JudgedLaws.{IsStepBy}
-use Rattle.mc_rules_steps.specs.Judges.{InstrRule, S1, S2, S3, S4, S5, S6, S7, S8, S9, S10, S11, S12, S13, S14, S15, S16, S17, S18, stepping}
+use Rattle.mc_rules_steps.specs.Judges.{stepping}
+use Rattle.mc_rules_steps.specs.Steps.{StepIs}
 use Rattle.mc_state.specs.Known.{Test, Tells, is_false}
 use Rattle.mc_state.specs.Premises.{Judged, IsJudged, need, have, then_give}
 use Rattle.mc_state.proofs.Numbered.{need_ok, need_yes, have_ok, have_yes, then_ok, given_once, given_not_unmet, given_or_unmet}
@@ -219,11 +220,11 @@ module _ (ties : Ties) (k : Knowledge) (flow : Flow) (defs : List Def) (g : Sett
   tells : Tells know b.state
   tells = asked.given.tells
 
-  stepped : (rule : InstrRule) → IsJudged (by_step k flow g rule b) (λ next. MayStep g b × ((steps : _) × IsStepBy rule flow b.point b.state steps × (next ≡ map path_of steps)))
+  stepped : (rule : InstrRule) → IsJudged (by_step k flow g rule b) (λ next. MayStep g b × ((steps : _) × StepIs rule flow b.point b.state steps × (next ≡ map path_of steps)))
   stepped rule =
-      tie_need 1 (may_step g b) (MayStep g b) (then_give (map path_of) (stepping know k.range flow rule b.point b.state)) (λ next. (steps : _) × IsStepBy rule flow b.point b.state steps × (next ≡ map path_of steps))
+      tie_need 1 (may_step g b) (MayStep g b) (then_give (map path_of) (stepping know k.range flow rule b.point b.state)) (λ next. (steps : _) × StepIs rule flow b.point b.state steps × (next ≡ map path_of steps))
       (step_says g b)
-      (tie_then (map path_of) (stepping know k.range flow rule b.point b.state) (IsStepBy rule flow b.point b.state) (ties.steps know k.range flow defs rule b.point b.state asked.given))
+      (tie_then (map path_of) (stepping know k.range flow rule b.point b.state) (StepIs rule flow b.point b.state) (ties.steps know k.range flow defs rule b.point b.state asked.given))
 
   unfolded_by : (j : Judged (List State)) (Rule : List State → Type 0) → IsJudged j Rule → IsJudged (by_unfolding j b) (λ next. (b.closing ≡ false) × ((states : List State) × Rule states × (next ≡ map (with_state b) states)))
   unfolded_by j Rule tie =
@@ -312,24 +313,7 @@ module _ (ties : Ties) (k : Knowledge) (flow : Flow) (defs : List Def) (g : Sett
   never next = (λ e. absurd (cc e), λ i. absurd i)
 
   line_at : (l : Line) → IsJudged (judged_line k flow defs g l b) (IsInstance flow defs g l b)
-  line_at line.S1 = stepped S1
-  line_at line.S2 = stepped S2
-  line_at line.S3 = stepped S3
-  line_at line.S4 = stepped S4
-  line_at line.S5 = stepped S5
-  line_at line.S6 = stepped S6
-  line_at line.S7 = stepped S7
-  line_at line.S8 = stepped S8
-  line_at line.S9 = stepped S9
-  line_at line.S10 = stepped S10
-  line_at line.S11 = stepped S11
-  line_at line.S12 = stepped S12
-  line_at line.S13 = stepped S13
-  line_at line.S14 = stepped S14
-  line_at line.S15 = stepped S15
-  line_at line.S16 = stepped S16
-  line_at line.S17 = stepped S17
-  line_at line.S18 = stepped S18
+  line_at (line.Step rule) = stepped rule
   line_at (line.L1 edge) =
       unfolded_by (unfolding_ind know defs (accessed flow b) edge b.state) (UnfoldsInd defs (accessed flow b) edge b.state)
       (ties.ind know defs (accessed flow b) edge b.state asked.given.made.fits_defs tells)
@@ -339,12 +323,12 @@ module _ (ties : Ties) (k : Knowledge) (flow : Flow) (defs : List Def) (g : Sett
   line_at (line.L15 edge) =
       unfolded_by (unfolding_back know defs (accessed flow b) edge b.state) (UnfoldsBack defs (accessed flow b) edge b.state)
       (ties.back know defs (accessed flow b) edge b.state tells)
-  line_at (line.L3 pred rule names block edges) =
-      folded_by (folding_ind know defs pred rule names block edges b.state) (FoldsInd defs pred rule names block edges b.state)
-      (ties.fold_ind know defs pred rule names block edges b.state asked.given.made.bounded tells)
-  line_at (line.L4 pred rule names block edges call) =
-      folded_by (folding_seg know defs pred rule names block edges call b.state) (FoldsSeg defs pred rule names block edges call b.state)
-      (ties.fold_seg know defs pred rule names block edges call b.state asked.given.made.bounded tells)
+  line_at (line.L3 fold) =
+      folded_by (folding_ind know defs fold b.state) (FoldsInd defs fold b.state)
+      (ties.fold_ind know defs fold b.state asked.given.made.bounded tells)
+  line_at (line.L4 fold) =
+      folded_by (folding_seg know defs fold b.state) (FoldsSeg defs fold b.state)
+      (ties.fold_seg know defs fold b.state asked.given.made.bounded tells)
   line_at (line.L5 first second) =
       folded_by (closing_seg know first second b.state) (ClosesSeg first second b.state) (ties.close know first second b.state asked.given.made.bounded tells)
   line_at (line.L6 first second) =

@@ -24,7 +24,7 @@ use Rattle.mc_kernel.proofs.Plain.{not_false}
 abbrev setting : Setting
 setting = record { form = Certificate; cuts = []; heads = [] }
 
-abbrev entry : State
+abbrev pub entry : State
 entry = unknown 2
 
 -- l is node 1, where a list is
@@ -48,13 +48,13 @@ goal = record { pred = list_id; at = node 1; args = [] }
 abbrev side : Next
 side = record { point = ex.at 3; goal = Some goal; state = with_list }
 
-abbrev gone : ℕ → State → Path
+abbrev pub gone : ℕ → State → Path
 gone p s = path_of (moved_to (ex.at p) s)
 
 may : (p : ℕ) (s : State) → MayStep setting (gone p s)
 may p s = record { plain = refl; open_still = refl; before_cut = inl (λ c. contains_none (ex.at p) c) }
 
-abbrev zeros : Valuation
+abbrev pub zeros : Valuation
 zeros n = pos 0
 
 module _ (law : TrueIsNotFalse) where

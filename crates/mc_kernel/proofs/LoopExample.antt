@@ -5,7 +5,7 @@ use Rattle.std.proofs.lemmas.Int.{ints}
 use Rattle.mc_base.specs.declared.ids.PointId.{PointId}
 use Rattle.mc_base.specs.declared.plain.Kind.TheVariants.{Int}
 use Rattle.mc_base.specs.declared.plain.Atom.TheVariants.{Eq, Ne}
-use Rattle.mc_base.specs.Nodes.{Valuation, null}
+use Rattle.mc_base.specs.Nodes.{null}
 use Rattle.mc_flow.specs.Defs.Examples.{structs, defs}
 use Rattle.mc_flow.specs.Valid.{IsSkip}
 use Rattle.mc_state.specs.Graph.Graph.{no_edges}
@@ -13,24 +13,22 @@ use Rattle.mc_pure.specs.Examples.{node}
 use Rattle.mc_pure.specs.Laws.{TrueIsNotFalse}
 use Rattle.mc_state.specs.declared.line.Form.TheVariants.{Certificate}
 use Rattle.mc_state.specs.RawStates.{IsWellFormedRaw, state_of}
-use Rattle.mc_state.specs.State.{State, unknown, with_atom}
+use Rattle.mc_state.specs.State.{State, with_atom}
 use Rattle.mc_state.specs.Facts.{IsFalse}
 use Rattle.mc_rules_steps.specs.Steps.{moved_to}
-use Rattle.mc_kernel.specs.Branches.{Path, Setting, MayStep, path_of, roots, AreCuts}
+use Rattle.mc_kernel.specs.Branches.{Setting, MayStep, roots, AreCuts}
 use Rattle.mc_kernel.specs.Instances.{JumpsTo, Reads}
 use Rattle.mc_kernel.specs.Certificates.{IsValidCertificate}
 use Rattle.mc_kernel.specs.Examples as ex
 use Rattle.mc_kernel.proofs.Lists.{contains_here}
-use Rattle.mc_kernel.proofs.Plain.{not_false, all_none, contains_one}
+use Rattle.mc_kernel.proofs.Plain.{not_false, contains_one}
+use Rattle.mc_kernel.proofs.ListExample.{entry, gone, zeros}
+use Rattle.mc_rules_steps.proofs.ExampleFlow.{all_none}
 
 abbrev setting : Setting
 setting = record { form = Certificate; cuts = ex.at 1 ∷ []; heads = (ex.at 1, state_of ex.loop_state) ∷ [] }
 
 -- ---- states
-
--- nothing is known, at the entry and at the head
-abbrev entry : State
-entry = unknown 2
 
 abbrev head : State
 head = state_of ex.loop_state
@@ -55,18 +53,11 @@ after_other = record not_zero { env = None ∷ None ∷ [] }
 abbrev with_result : State
 with_result = record after_zero { env = Some null ∷ None ∷ [] }
 
--- every node is 0, or node 1 is 1
-abbrev zeros : Valuation
-zeros n = pos 0
-
 abbrev one_at : ℕ → ℤ
 one_at zero = pos 0
 one_at (suc n) = pos 1
 
 -- ---- the lines
-
-abbrev gone : ℕ → State → Path
-gone p s = path_of (moved_to (ex.at p) s)
 
 no_cut : (p : ℕ) → 1 ≢ p → Contains (ex.at 1 ∷ []) (ex.at p) → ⊥
 no_cut p ne c = let same : ex.at 1 ≡ ex.at p = contains_one (ex.at 1) (ex.at p) c in ne (ap (λ (q : PointId). q.0) same)

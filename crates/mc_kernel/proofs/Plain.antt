@@ -1,6 +1,6 @@
 -- States whose atoms are true by some numbers are not false, and short lists.
 use Rattle.std.proofs.Common.{◌≡◌, ◌<◌, ℕ, zero, suc, List, [], ◌∷◌, arith, pos}
-use Rattle.std.specs.Prelude.{All, Contains, slice_index_or}
+use Rattle.std.specs.Prelude.{Contains, slice_index_or}
 use Rattle.std.specs.List.{AllByRecursion}
 use Rattle.std.proofs.lemmas.Int.{ints}
 use Rattle.mc_base.specs.declared.ids.NodeId.{NodeId}
@@ -14,7 +14,7 @@ use Rattle.mc_pure.specs.Pure.{Pure, Kinds, kind_atom}
 use Rattle.mc_pure.specs.Pure as known
 use Rattle.mc_pure.specs.Derived.{IsFalse}
 use Rattle.mc_pure.specs.Laws.{IsTrue, TrueIsNotFalse}
-use Rattle.mc_kernel.proofs.Lists.{all_at}
+use Rattle.mc_state.proofs.Lists.{all_at}
 
 -- what is known where no block is
 abbrev pub known_of : Kinds → List Atom → Pure
@@ -36,18 +36,6 @@ module _ (v : Valuation) (kinds : Kinds) (atoms : List Atom) (null : v 0 ≡ pos
   not_false law wrong = law (known_of kinds atoms) v base_true wrong
 
 -- ---- short lists
-
-pub all_none : {X : Type 0} (P : X → Type 0) → All P []
-all_none P k d lt = absurd (let less : k < 0 = lt in omega arith)
-
-pub all_one : {X : Type 0} (P : X → Type 0) (x : X) → P x → All P (x ∷ [])
-all_one P x h zero d lt = h
-all_one P x h (suc k) d lt = absurd (let less : suc k < 1 = lt in omega arith)
-
-pub all_two : {X : Type 0} (P : X → Type 0) (x y : X) → P x → P y → All P (x ∷ y ∷ [])
-all_two P x y h g zero d lt = h
-all_two P x y h g (suc zero) d lt = g
-all_two P x y h g (suc (suc k)) d lt = absurd (let less : suc (suc k) < 2 = lt in omega arith)
 
 -- a list of one contains nothing else
 pub contains_one : {X : Type 0} (x y : X) → Contains (x ∷ []) y → x ≡ y

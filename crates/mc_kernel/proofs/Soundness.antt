@@ -20,11 +20,12 @@ use Rattle.mc_rules_logic.specs.Fold.Changed.{MergesNodes}
 use Rattle.mc_rules_steps.specs.Next.{Next}
 use Rattle.mc_rules_steps.specs.Laws.{IsStep, IsAt, LeadsOn, SidesHold}
 use Rattle.mc_kernel.specs.Branches.{Path, Setting, IsPlain, path_to, path_of, merged_goal, states_at}
-use Rattle.mc_kernel.proofs.Lists.{all_at, all_of_map, all_map, all_both}
+use Rattle.mc_kernel.proofs.Lists.{all_of_map}
 use Rattle.mc_kernel.proofs.Visits.{SafeUpTo, StepsSafely, safe_next, safe_here}
 use Rattle.mc_kernel.proofs.Goals.{goal_below_more, goal_there_below, merged_below, node_below}
 use Rattle.mc_kernel.proofs.Claims.{IsFine, Claim, Holds, claim_plain, claim_moved, claim_side, claim_agrees, claim_merged, step_plain, step_side}
 use Rattle.mc_kernel.proofs.Calculus.{CalculusLaws}
+use Rattle.mc_state.proofs.Lists.{all_at, all_both, all_map}
 
 -- a branch that keeps its place, with another state, and with what a line makes of its goal
 abbrev pub kept : Path → Bool → Option Goal → State → Path

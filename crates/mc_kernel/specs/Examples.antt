@@ -16,7 +16,8 @@ use Rattle.mc_flow.specs.declared.instr.Operand.TheVariants.{Var, Const}
 use Rattle.mc_pure.specs.Examples.{node}
 use Rattle.mc_state.specs.declared.line.Form.TheVariants.{Certificate}
 use Rattle.mc_lines.specs.declared.cert.line.Line.{Line}
-use Rattle.mc_lines.specs.declared.cert.line.Line.TheVariants.{Header, Cut, Head, End, S1, S2, S3, S4, S13, S15, S16, S17, L13, L14, C1}
+use Rattle.mc_state.specs.declared.line.InstrRule.TheVariants.{S1, S2, S3, S4, S13, S15, S16, S17}
+use Rattle.mc_lines.specs.declared.cert.line.Line.TheVariants.{Header, Cut, Head, End, Step, L13, L14, C1}
 use Rattle.mc_state.specs.declared.line.Version.TheVariants.{One}
 use Rattle.mc_state.specs.declared.raw_state.NodeKind.TheVariants.{Zero}
 use Rattle.mc_state.specs.declared.raw_state.RawState.{RawState}
@@ -81,7 +82,9 @@ loop_state = record { vars = None ∷ None ∷ []; kinds = Zero ∷ []; edges = 
 
 -- from the entry to the head; from the head to the end, and back to the head
 abbrev pub loop_rules : List Line
-loop_rules = S1 ∷ L13 0 (null ∷ []) [] ∷ S1 ∷ S4 ∷ S13 ∷ S3 ∷ S1 ∷ S2 ∷ S17 ∷ S3 ∷ L13 0 (null ∷ []) [] ∷ []
+loop_rules =
+    Step S1 ∷ L13 0 (null ∷ []) [] ∷ Step S1 ∷ Step S4 ∷ Step S13 ∷ Step S3 ∷ Step S1
+    ∷ Step S2 ∷ Step S17 ∷ Step S3 ∷ L13 0 (null ∷ []) [] ∷ []
 
 -- its certificate
 abbrev pub loop_document : List Line
@@ -110,7 +113,7 @@ list_flow = flow_of list_vars [] list_code
 
 -- the side branch of the assertion ends by L14, before the main branch goes on
 abbrev pub list_rules : List Line
-list_rules = S1 ∷ S3 ∷ S15 ∷ S16 ∷ L14 (edge 0) ∷ S2 ∷ S17 ∷ []
+list_rules = Step S1 ∷ Step S3 ∷ Step S15 ∷ Step S16 ∷ L14 (edge 0) ∷ Step S2 ∷ Step S17 ∷ []
 
 -- its certificate
 abbrev pub list_document : List Line
@@ -122,7 +125,7 @@ list_document = Header One Certificate ∷ (list_rules ++ End ∷ [])
 abbrev pub failing_code : List Instr
 failing_code = instr.Skip (at 1) ∷ instr.Skip (at 2) ∷ instr.Fail ∷ []
 
--- a flow graph that fails behind a loop head
+-- a flow graph that fails after a loop head
 abbrev pub failing_flow : Flow
 failing_flow = flow_of [] (at 1 ∷ []) failing_code
 
@@ -132,7 +135,7 @@ failing_state = record { vars = []; kinds = Zero ∷ []; edges = []; atoms = [];
 
 -- a pass of a chain, which is stuck where the program fails
 abbrev pub failing_pass : List Line
-failing_pass = S1 ∷ L13 0 (null ∷ []) [] ∷ S1 ∷ C1 ∷ []
+failing_pass = Step S1 ∷ L13 0 (null ∷ []) [] ∷ Step S1 ∷ C1 ∷ []
 
 -- where it is stuck: at the fault, with the state of the head
 abbrev pub failing_path : Path

@@ -2,17 +2,15 @@
 use Rattle.std.specs.Prelude.{◌≡◌, ℕ, List, [], ◌∷◌, ◌++◌, false, Option, Some, None, Contains, map, option_map, slice_get}
 use Rattle.mc_base.specs.declared.ids.EdgeId.{EdgeId}
 use Rattle.mc_base.specs.declared.ids.NodeId.{NodeId}
-use Rattle.mc_base.specs.declared.ids.PointId.{PointId}
 use Rattle.mc_flow.specs.declared.defs.rules.Def.{Def}
 use Rattle.mc_flow.specs.declared.graph.Flow.{Flow}
 use Rattle.mc_flow.specs.declared.instr.Instr.{Instr}
 use Rattle.mc_flow.specs.declared.instr.Instr.TheVariants as instr
 use Rattle.mc_state.specs.declared.goal.Goal.{Goal}
+use Rattle.mc_state.specs.declared.line.InstrRule.{InstrRule}
 use Rattle.mc_lines.specs.declared.cert.line.Line.{Line}
-use Rattle.mc_lines.specs.declared.cert.line.Line.TheVariants.{Header, Cut, Head, Pass, End, S1, S2, S3, S4, S5, S6, S7}
-use Rattle.mc_lines.specs.declared.cert.line.Line.TheVariants.{S8, S9, S10, S11, S12, S13, S14, S15, S16, S17, S18, L1}
-use Rattle.mc_lines.specs.declared.cert.line.Line.TheVariants.{L2, L3, L4, L5, L6, L7, L8, L9, L10, L11, L12, L13, L14, L15}
-use Rattle.mc_lines.specs.declared.cert.line.Line.TheVariants.{C1, C2, C3}
+use Rattle.mc_lines.specs.declared.cert.line.Line.TheVariants.{Header, Cut, Head, Pass, End, Step, L1, L2, L3, L4, L5, L6, L7, L8, L9, L10}
+use Rattle.mc_lines.specs.declared.cert.line.Line.TheVariants.{L11, L12, L13, L14, L15, C1, C2, C3}
 use Rattle.mc_state.specs.State.{State, var_node}
 use Rattle.mc_state.specs.Facts.{IsFalse}
 use Rattle.mc_rules_logic.specs.Unfold.Unfolded.{UnfoldsInd, UnfoldsSeg}
@@ -23,7 +21,7 @@ use Rattle.mc_rules_logic.specs.Fold.Goals.{MeetsGoal}
 use Rattle.mc_rules_steps.specs.declared.gap.Gap.{Gap}
 use Rattle.mc_rules_steps.specs.Next.{Next}
 use Rattle.mc_rules_steps.specs.Operands.{code_at, operand_node}
-use Rattle.mc_rules_steps.specs.Steps.{S1Is, S2Is, S3Is, S4Is, S5Is, S6Is, S7Is, S8Is, S9Is, S10Is, S11Is, S12Is, S13Is, S14Is, S15Is, S16Is, S17Is, S18Is}
+use Rattle.mc_rules_steps.specs.Steps.{StepIs}
 use Rattle.mc_rules_steps.specs.Unmet.{IsUnmet}
 use Rattle.mc_kernel.specs.Branches.{Path, Setting, MayStep, MayCut, IsPlain, IsChain, closes_by, path_of, with_state, merged_goal, states_at}
 use Rattle.mc_kernel.specs.Jumps.{Jumps}
@@ -46,8 +44,8 @@ abbrev pub accessed : Flow → Path → Option NodeId
 accessed flow b = accessed_outside b.goal (accessed_by b.state (code_at flow b.point))
 
 -- a rule of instructions, where it may stand
-abbrev pub ByStep : (Flow → PointId → State → List Next → Type 0) → Flow → Setting → Path → List Path → Type 0
-ByStep Rule flow g b next = MayStep g b × ((steps : List Next) × Rule flow b.point b.state steps × (next ≡ map path_of steps))
+abbrev pub ByStep : InstrRule → Flow → Setting → Path → List Path → Type 0
+ByStep rule flow g b next = MayStep g b × ((steps : List Next) × StepIs rule flow b.point b.state steps × (next ≡ map path_of steps))
 
 -- a rule of logic that unfolds: not where the branch is closing
 abbrev pub ByUnfolding : (State → List State → Type 0) → Path → List Path → Type 0
@@ -115,28 +113,11 @@ pub record IsStuck (flow : Flow) (defs : List Def) (g : Setting) (b : Path) (nex
 
 -- the line is an instance at the branch, and these branches come of it
 abbrev pub IsInstance : Flow → List Def → Setting → Line → Path → List Path → Type 0
-IsInstance flow defs g S1 b next = ByStep S1Is flow g b next
-IsInstance flow defs g S2 b next = ByStep S2Is flow g b next
-IsInstance flow defs g S3 b next = ByStep S3Is flow g b next
-IsInstance flow defs g S4 b next = ByStep S4Is flow g b next
-IsInstance flow defs g S5 b next = ByStep S5Is flow g b next
-IsInstance flow defs g S6 b next = ByStep S6Is flow g b next
-IsInstance flow defs g S7 b next = ByStep S7Is flow g b next
-IsInstance flow defs g S8 b next = ByStep S8Is flow g b next
-IsInstance flow defs g S9 b next = ByStep S9Is flow g b next
-IsInstance flow defs g S10 b next = ByStep S10Is flow g b next
-IsInstance flow defs g S11 b next = ByStep S11Is flow g b next
-IsInstance flow defs g S12 b next = ByStep S12Is flow g b next
-IsInstance flow defs g S13 b next = ByStep S13Is flow g b next
-IsInstance flow defs g S14 b next = ByStep S14Is flow g b next
-IsInstance flow defs g S15 b next = ByStep S15Is flow g b next
-IsInstance flow defs g S16 b next = ByStep S16Is flow g b next
-IsInstance flow defs g S17 b next = ByStep S17Is flow g b next
-IsInstance flow defs g S18 b next = ByStep S18Is flow g b next
+IsInstance flow defs g (Step rule) b next = ByStep rule flow g b next
 IsInstance flow defs g (L1 edge) b next = ByUnfolding (UnfoldsInd defs (accessed flow b) edge) b next
 IsInstance flow defs g (L2 edge) b next = ByUnfolding (UnfoldsSeg defs (accessed flow b) edge) b next
-IsInstance flow defs g (L3 pred rule names block edges) b next = ByFolding (FoldsInd defs pred rule names block edges) g b next
-IsInstance flow defs g (L4 pred rule names block edges call) b next = ByFolding (FoldsSeg defs pred rule names block edges call) g b next
+IsInstance flow defs g (L3 fold) b next = ByFolding (FoldsInd defs fold) g b next
+IsInstance flow defs g (L4 fold) b next = ByFolding (FoldsSeg defs fold) g b next
 IsInstance flow defs g (L5 first second) b next = ByFolding (ClosesSeg first second) g b next
 IsInstance flow defs g (L6 first second) b next = ByFolding (JoinsSegs first second) g b next
 IsInstance flow defs g (L7 pred at args stop ends) b next = ByFolding (MakesEmptySeg defs pred at args stop ends) g b next

@@ -21,6 +21,7 @@ use Rattle.mc_state.specs.Premises.{Judged, need, have, then_give}
 use Rattle.mc_state.specs.declared.goal.Goal.{Goal}
 use Rattle.mc_state.specs.declared.line.Form.{Form}
 use Rattle.mc_state.specs.declared.line.Form.TheVariants.{Certificate, Chain}
+use Rattle.mc_state.specs.declared.line.InstrRule.{InstrRule}
 use Rattle.mc_lines.specs.declared.cert.line.Line.{Line}
 use Rattle.mc_lines.specs.declared.cert.line.Line.TheVariants as line
 use Rattle.mc_state.specs.State.{State}
@@ -29,13 +30,13 @@ use Rattle.mc_rules_logic.specs.Back.Judges.{unfolding_back}
 use Rattle.mc_rules_logic.specs.Fold.Judges.{folding_ind, folding_seg, closing_seg, joining_segs, making_seg, meeting_goal}
 use Rattle.mc_rules_logic.specs.Fold.ChangeJudges.{naming_spare, merging_nodes, dropping_edge, forgetting_node}
 use Rattle.mc_rules_steps.specs.declared.gap.Gap.{Gap}
-use Rattle.mc_rules_steps.specs.Judges.{InstrRule, S1, S2, S3, S4, S5, S6, S7, S8, S9, S10, S11, S12, S13, S14, S15, S16, S17, S18, stepping}
+use Rattle.mc_rules_steps.specs.Judges.{stepping}
 use Rattle.mc_rules_steps.specs.Sums.{Ranges}
 use Rattle.mc_kernel.specs.Branches.{Path, Setting, closes_by, path_of, with_state, merged_goal, states_at}
 use Rattle.mc_kernel.specs.Instances.{accessed}
 use Rattle.mc_kernel.specs.Jumps.{image_of}
 
--- what lines are judged by: what is derived in a state, its least ranges, the list that is written where a node is
+-- what lines are judged by: what is entailed in a state, its least ranges, the list that is written where a node is
 -- forgotten, and what the instruction at a point lacks
 pub record Knowledge : Type 0 where
   pub know : State → Test
@@ -179,7 +180,7 @@ abbrev pub goal_is_free : NodeId → Option Goal → Bool
 goal_is_free n None = true
 goal_is_free n (Some goal) = not (is_one_of n (goal.at ∷ goal.args))
 
--- one more premise behind those of a rule
+-- one more premise after those of a rule
 abbrev pub and_need : {A : Type 0} → ℕ → Bool → Judged A → Judged A
 and_need k test (Ok a) = need k test (Ok a)
 and_need k test (Err j) = Err j
@@ -203,30 +204,11 @@ stuck_at k g b =
 
 -- what a line gives at the first open branch, or its first premise that is unmet
 abbrev pub judged_line : Knowledge → Flow → List Def → Setting → Line → Path → Judged (List Path)
-judged_line k flow defs g line.S1 b = by_step k flow g S1 b
-judged_line k flow defs g line.S2 b = by_step k flow g S2 b
-judged_line k flow defs g line.S3 b = by_step k flow g S3 b
-judged_line k flow defs g line.S4 b = by_step k flow g S4 b
-judged_line k flow defs g line.S5 b = by_step k flow g S5 b
-judged_line k flow defs g line.S6 b = by_step k flow g S6 b
-judged_line k flow defs g line.S7 b = by_step k flow g S7 b
-judged_line k flow defs g line.S8 b = by_step k flow g S8 b
-judged_line k flow defs g line.S9 b = by_step k flow g S9 b
-judged_line k flow defs g line.S10 b = by_step k flow g S10 b
-judged_line k flow defs g line.S11 b = by_step k flow g S11 b
-judged_line k flow defs g line.S12 b = by_step k flow g S12 b
-judged_line k flow defs g line.S13 b = by_step k flow g S13 b
-judged_line k flow defs g line.S14 b = by_step k flow g S14 b
-judged_line k flow defs g line.S15 b = by_step k flow g S15 b
-judged_line k flow defs g line.S16 b = by_step k flow g S16 b
-judged_line k flow defs g line.S17 b = by_step k flow g S17 b
-judged_line k flow defs g line.S18 b = by_step k flow g S18 b
+judged_line k flow defs g (line.Step rule) b = by_step k flow g rule b
 judged_line k flow defs g (line.L1 edge) b = by_unfolding (unfolding_ind (k.know b.state) defs (accessed flow b) edge b.state) b
 judged_line k flow defs g (line.L2 edge) b = by_unfolding (unfolding_seg (k.know b.state) defs (accessed flow b) edge b.state) b
-judged_line k flow defs g (line.L3 pred rule names block edges) b = by_folding
-    (folding_ind (k.know b.state) defs pred rule names block edges b.state) g b
-judged_line k flow defs g (line.L4 pred rule names block edges call) b = by_folding
-    (folding_seg (k.know b.state) defs pred rule names block edges call b.state) g b
+judged_line k flow defs g (line.L3 fold) b = by_folding (folding_ind (k.know b.state) defs fold b.state) g b
+judged_line k flow defs g (line.L4 fold) b = by_folding (folding_seg (k.know b.state) defs fold b.state) g b
 judged_line k flow defs g (line.L5 first second) b = by_folding (closing_seg (k.know b.state) first second b.state) g b
 judged_line k flow defs g (line.L6 first second) b = by_folding (joining_segs (k.know b.state) first second b.state) g b
 judged_line k flow defs g (line.L7 pred at args stop ends) b = by_folding

@@ -71,7 +71,7 @@ pub record Jumps (s t : State) (images : List NodeId) (edges : List EdgeId) : Ty
   pub left : Edges
   pub picks : Picks edges s.graph.edges picked left
   pub match : EdgesMatch s images t.graph.edges picked
-  -- 8: each atom that is written there, renamed, is derived here
+  -- 8: each atom that is written there, renamed, is entailed here
   pub atoms : AllByRecursion (λ f. Derives s (moved_atom (image_of images) f)) t.atoms
   -- 9: where that state is whole, this one is, and no edge is left
   pub whole : t.whole ≡ true → (s.whole ≡ true) × (left ≡ [])

@@ -72,7 +72,7 @@ abbrev pub rooted : Flow → Reading → Form → Option Reading
 rooted flow r Certificate = if has_all_heads flow r.cuts then Some (ruled r (roots flow (states_of r.heads))) else None
 rooted flow r Chain = None
 
--- a certificate begins with its roots behind its cuts and heads; a chain has begun by its pass
+-- a certificate begins with its roots after its cuts and heads; a chain has begun by its pass
 abbrev pub ready : Flow → Reading → Stage → Option Reading
 ready flow r cutting = rooted flow r r.form
 ready flow r heading = rooted flow r r.form
@@ -86,7 +86,7 @@ abbrev pub is_skip : Option Instr → Bool
 is_skip (Some (instr.Skip q)) = true
 is_skip other = false
 
--- the point is behind the last of a list
+-- the point is after the last of a list
 abbrev pub comes_after : List PointId → PointId → Bool
 comes_after [] p = true
 comes_after (q ∷ []) p = nat_lt q.0 p.0
@@ -145,7 +145,7 @@ reading_end flow r = have 1 (ready flow r r.stage) (λ t. need 3 (has_no_branch 
 
 -- ---- rule lines
 
--- the first open branch, and those behind it
+-- the first open branch, and those after it
 abbrev pub first_branch : List Path → Option (Path × List Path)
 first_branch [] = None
 first_branch (b ∷ bs) = Some (b, bs)
@@ -172,7 +172,7 @@ reading_line k well flow defs line.Pass r = reading_pass flow r
 reading_line k well flow defs line.End r = reading_end flow r
 reading_line k well flow defs l r = reading_rule k flow defs l r
 
--- what comes of the lines behind a line; or the line's number and its first premise that is unmet
+-- what comes of the lines after a line; or the line's number and its first premise that is unmet
 abbrev pub behind : ℕ → Judged Reading → (Reading → Result Reading (ℕ × ℕ)) → Result Reading (ℕ × ℕ)
 behind number (Ok r) rest = rest r
 behind number (Err k) rest = Err (number, k)

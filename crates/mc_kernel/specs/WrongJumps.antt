@@ -18,7 +18,8 @@ use Rattle.mc_pure.specs.Pure.{HasKind}
 use Rattle.mc_pure.specs.Derived.{LiesIn}
 use Rattle.mc_state.specs.declared.line.Form.TheVariants.{Certificate}
 use Rattle.mc_lines.specs.declared.cert.line.Line.{Line}
-use Rattle.mc_lines.specs.declared.cert.line.Line.TheVariants.{Header, Cut, Head, End, S1, S2, S3, S4, S13, S17, L13}
+use Rattle.mc_state.specs.declared.line.InstrRule.TheVariants.{S1, S2, S3, S4, S13, S17}
+use Rattle.mc_lines.specs.declared.cert.line.Line.TheVariants.{Header, Cut, Head, End, Step, L13}
 use Rattle.mc_state.specs.declared.line.Version.TheVariants.{One}
 use Rattle.mc_state.specs.State.{State, pure_of}
 use Rattle.mc_state.specs.Facts.{IsFalse, Derives}
@@ -114,11 +115,13 @@ pub record IsCertificateAtOnce (flow : Flow) (defs : List Def) (lines : List Lin
 
 -- from the entry to the head, and from the head to itself at once
 abbrev pub failing_document : List Line
-failing_document = Header One Certificate ∷ Cut (at 1) ∷ Head (at 1) failing_state ∷ S1 ∷ L13 0 (null ∷ []) []
+failing_document = Header One Certificate ∷ Cut (at 1) ∷ Head (at 1) failing_state ∷ Step S1 ∷ L13 0 (null ∷ []) []
     ∷ L13 0 (null ∷ []) [] ∷ End ∷ []
 
 -- ---- a loop head that is no cut
 
 -- lines along the loop, without a cut
 abbrev pub uncut_document : List Line
-uncut_document = Header One Certificate ∷ S1 ∷ S1 ∷ S4 ∷ S13 ∷ S3 ∷ S1 ∷ S2 ∷ S17 ∷ S3 ∷ End ∷ []
+uncut_document =
+    Header One Certificate ∷ Step S1 ∷ Step S1 ∷ Step S4 ∷ Step S13 ∷ Step S3
+    ∷ Step S1 ∷ Step S2 ∷ Step S17 ∷ Step S3 ∷ End ∷ []

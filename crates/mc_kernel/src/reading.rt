@@ -50,7 +50,7 @@ pub fn documents_go_on()
     ensures closed { EndedIsClosed }
 {}
 
-/// The lines behind its header end a document exactly where it is a valid certificate, or a chain of one pass with
+/// The lines after its header end a document exactly where it is a valid certificate, or a chain of one pass with
 /// these stuck branches.
 pub fn documents_are_read()
     ensures certificates { CertificatesAreRead }
@@ -67,7 +67,7 @@ pub fn documents_are_read()
     numbers_stay_bounded();
 }
 
-/// A document has ended, is open, or has one line that is refused, with one premise; then nothing behind it makes
+/// A document has ended, is open, or has one line that is refused, with one premise; then nothing after it makes
 /// the document valid.
 pub fn refusals_are_one()
     ensures answered { RefusalsAreRead }

@@ -13,15 +13,17 @@ mod line;
 mod parts;
 mod pieces;
 mod read;
+mod rules;
 mod write;
 
 pub use entry::{Entry, put, three, two, values_of};
 pub use fault::LineFault;
 pub use line::Line;
-pub use mc_state::{Form, JoinStep, NodeKind, RawState, Side, Version};
+pub use mc_state::{Form, InstrRule, JoinStep, NodeKind, RawState, Side, Version};
 pub use parts::named;
 pub use pieces::first_line;
 pub use read::line_of;
+pub use rules::rule_name;
 pub use write::bytes_of;
 
 /// Bytes spell one line at most.

@@ -40,7 +40,7 @@ counted (h ∷ xs) x = ap suc (counted xs x)
 pub one_more : {A : Type 0} (xs zs : List A) (x : A) → zs ≡ xs ++ x ∷ [] → length zs ≡ suc (length xs)
 one_more xs zs x is = ap length is ∙ counted xs x
 
--- what holds of each item of the longer list holds of each of the shorter one, and of those behind
+-- what holds of each item of the longer list holds of each of the shorter one, and of those after
 pub shorter : {A : Type 0} (P : ℕ → A → Type 0) (xs ys zs : List A) → zs ≡ xs ++ ys → AllAt P zs → AllAt P xs
 shorter P xs ys zs is all i y there = all i y (ap (λ l. slice_get l i) is ∙ kept xs ys i y there)
 

@@ -15,7 +15,6 @@ pub mod Owning
 pub mod Pointing
 pub mod Readying
 pub mod Resting
-pub mod Seen
 pub mod Testing
 pub mod Valuing
 pub mod Waiting

@@ -761,7 +761,7 @@ last_waiting k ws i (Some x) ready = action_under k ws i x.action ready
 pub last_under : (k m : Known) (l : Label) (i : ℕ) (o : Option Simple) → k ≡ with_label l m → IsLastReady k i o → IsLastReady m i o
 last_under k m l i o is ready = last_waiting (with_label l m) m.waiting i o (subst (λ x. IsLastReady x i o) is ready)
 
--- ---- behind the body of a `for`
+-- ---- after the body of a `for`
 pub ready_turn_none : (src : Source) (ws : List Awaited) (s : State) (i : ℕ) (h : Bor ForHead) (l m : Label) (ts : List Task) → Later (at src ws s) i [] ts → Ready (with_label m (at src ws s)) (Task.EndFor h l m i ∷ ts)
 ready_turn_none src ws s i h l m ts later = (tt, (at src ws s, refl, λ t f. later t f))
 

@@ -22,7 +22,7 @@ pub pushed_two : (w : World) (now middle more : List Task) (t v : Task) (s u : S
     → (m : Stage) × Met w t s m × ((n : Stage) × Met w v m n × Rest w more n u)
 pushed_two w now middle more t v s u first second rest = pushed w now (t ∷ v ∷ more) s u (first ∙ ap (λ l. t ∷ l) second) rest
 
--- what is behind a reference that may be missing
+-- what is after a reference that may be missing
 pub copied_map : {X Y : Type 0} (f : X → Y) (o : Option (Bor X)) → option_map f (option_copied o) ≡ option_map (λ x. f x.now) o
 copied_map f None = refl
 copied_map f (Some x) = refl

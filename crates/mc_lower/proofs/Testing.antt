@@ -48,7 +48,7 @@ comparing g place c a b ts n k y z t f n1 k1 m k2 l k3 points variables there hi
     (subst (λ j. Undefines g place ts (stage z m k) (stage f l j)) (sym again)
     (subst (λ x. Undefines g place ts (stage z m x) (stage f l k3)) (sym same) miss)))
 
--- a test that was put, behind which the temporaries become undefined on both ways
+-- a test that was put, after which the temporaries become undefined on both ways
 pub compared : (w : World) (place : Place) (c : Comparison) (a b : Operand) (ts : List VarId) (code : Instr) (hit miss : Label) (t f : ℕ) (r : Stage)
     → (b0 b1 b2 b3 : Builder) → r ≡ stage_of w b0 → IsPut w RoleCode.Plain place code b0 b1 → code ≡ decides c a b (point hit.0) (point miss.0)
     → b1.lines.goal ≡ hit → b2.lines.goal ≡ miss

@@ -83,7 +83,7 @@ IsCommand (break_loop place) = ⊤
 IsCommand (continue_loop place) = ⊤
 IsCommand (returns place right) = ⊥
 
--- what stands behind the parts of a statement or of a call
+-- what stands after the parts of a statement or of a call
 abbrev pub IsBehind : Task → Type 0
 IsBehind (Task.Statements ss c) = ⊥
 IsBehind (Task.Statement a c) = ⊥
@@ -102,7 +102,7 @@ IsBehind (Task.Take place target answer i) = ⊤
 IsBehind (Task.Answer place own answer i) = ⊤
 
 -- ---- parts
--- behind the body of a call its variables become undefined
+-- after the body of a call its variables become undefined
 pub data EndsCall (g : Graph) (out : ℕ) (place : Place) (count : ℕ) : Stage → Stage → Type 0 where
   ends_call : {k : ℕ} {u : Stage} → Forgets g out place count (stage out out k) u
       → EndsCall g out place count (stage out out k) u
@@ -159,24 +159,24 @@ pub data ExitsTo (g : Graph) (place : Place) (begin exit : ℕ) : Stage → Stag
   exits : {k : ℕ} {u : Stage} → Appends g plain place (λ q. Skip q) (stage exit exit k) u
       → ExitsTo g place begin exit (stage begin exit k) u
 
--- behind the body of a `do`
+-- after the body of a `do`
 pub data EndsDo (g : Graph) (out : ℕ) (place : Place) (d : Cond) (begin turn exit : ℕ) : Stage → Stage → Type 0 where
   ends_do : {j l : ℕ} {m u : Stage} → Appends g plain place (λ q. Skip q) (stage turn turn j) m
       → Tests g out d m begin exit exit l → Appends g plain place (λ q. Skip q) (stage exit exit l) u
       → EndsDo g out place d begin turn exit (stage turn turn j) u
 
--- behind the last part of a `for`
+-- after the last part of a `for`
 pub data EndsFor (g : Graph) (out : ℕ) (h : Head) (begin exit : ℕ) : Stage → Stage → Type 0 where
   ends_for : {s m u : Stage} → ExitsTo g h.place begin exit s m → Leaves g out nowhere h.variables m u
       → EndsFor g out h begin exit s u
 
--- behind the body of a `for`
+-- after the body of a `for`
 pub data TurnsFor (g : Graph) (out : ℕ) (h : Head) (begin turn exit : ℕ) : Stage → Stage → Type 0 where
   turns_for : {j : ℕ} {m n u : Stage} → Appends g plain h.place (λ q. Skip q) (stage turn turn j) m
       → Finishes g out h.last m n → EndsFor g out h begin exit n u
       → TurnsFor g out h begin turn exit (stage turn turn j) u
 
--- behind the first part of a `for`: with that it is the whole
+-- after the first part of a `for`: with that it is the whole
 abbrev pub EntersFor : Graph → Around → Head → Stmt → Stage → Stage → Type 0
 EntersFor g c h a s u =
     (r : Stage) → Starts g c.function c.out h.start r s → Lowers g c (for_loop h a) r u

@@ -36,7 +36,7 @@ abbrev pub HaveKinds : Structs → List FieldAt → Type 0
 HaveKinds structs [] = Unit {0}
 HaveKinds structs (f ∷ fs) = HasKind structs f × HaveKinds structs fs
 
--- a variable of an occurrence, and the fields behind it
+-- a variable of an occurrence, and the fields after it
 abbrev pub IsNamed : Known → ℕ → Left → Type 0
 IsNamed k i l = IsThere k i l.variable × HaveKinds k.source.structs l.fields
 
@@ -183,7 +183,7 @@ FitsItems k c items =
     Fits k c (items_declared items) (λ made. AreLowerableItems k.source.structs made items)
     (λ h. AreDeclared h items) (λ n s. DeclareIn n s items)
 
--- a `for` behind its first part
+-- a `for` after its first part
 abbrev pub FitsFor : Known → Context → Head → Stmt → Type 0
 FitsFor k c h a =
     Fits k c (declared a)

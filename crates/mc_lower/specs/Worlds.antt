@@ -18,7 +18,7 @@ use Rattle.mc_lower.specs.declared.variables.Owner.{Owner as OwnerCode}
 use Rattle.mc_lower.specs.declared.builder.Role.{Role as RoleCode}
 
 -- the finished flow graph, with the point of each label, the point that the `return` of each occurrence of a function
--- goes to, and the variables of each block and of those around it in the same loop; occurrences are told apart by their
+-- goes to, and the variables of each block and of those around it in the same loop; occurrences are known apart by their
 -- points
 pub record World : Type 0 where
   pub graph : Graph

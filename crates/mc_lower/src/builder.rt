@@ -166,10 +166,7 @@ impl<'a> Builder<'a> {
         ensures { IfOk result (λ xs. (w : World) → Agrees w self.now → xs.items ≡ blocks_in w block) }
     {
         match block {
-            Some(number) => {
-                let numbers = self.numbers_of(number)?;
-                Ok(numbers)
-            }
+            Some(number) => self.numbers_of(number),
             None => Ok(Vec::new(self.alloc)),
         }
     }

@@ -148,7 +148,7 @@ impl<'a> Builder<'a> {
         Ok(Entered { callee, answer })
     }
 
-    /// The body of a call is behind: its variables become undefined.
+    /// The body of a call is after: its variables become undefined.
     pub fn end_call(&mut self, place: Place, callee: Context<'a>) -> Result<(), BuildFault>
         requires occurs { callee.occurrence < (known self.old).state.occurrences }
         requires waits { (k : Known) × (known self.old ≡ with_next (Out callee.occurrence) k) }

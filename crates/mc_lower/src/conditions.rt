@@ -80,7 +80,7 @@ impl<'a> Builder<'a> {
         Ok(())
     }
 
-    // Two operands are compared, and behind the test the temporaries become undefined on both ways.
+    // Two operands are compared, and after the test the temporaries become undefined on both ways.
     fn compare(
         &mut self,
         place: Place,

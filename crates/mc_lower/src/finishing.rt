@@ -96,8 +96,7 @@ fn add_both(list: &mut Vec<i64>, first: Operand, second: Operand) -> Result<(), 
     ensures { OnOk result (list.new.items ≡ list.old.items ++ constants (first ∷ second ∷ [])) }
 {
     add_constant(list, first)?;
-    add_constant(list, second)?;
-    Ok(())
+    add_constant(list, second)
 }
 
 // The constants of operands join a list.
@@ -116,25 +115,17 @@ fn add_constants(list: &mut Vec<i64>, code: &Instr) -> Result<(), BuildFault>
 {
     match code {
         Instr::Copy(_, o, _) | Instr::Store(_, _, _, o, _) | Instr::Free(o, _) => {
-            add_constant(list, *o)?;
-            Ok(())
+            add_constant(list, *o)
         }
         Instr::Add(_, a, b, _)
         | Instr::Sub(_, a, b, _)
         | Instr::Mul(_, a, b, _)
         | Instr::TestEq(a, b, _, _)
-        | Instr::TestLe(a, b, _, _) => {
-            add_both(list, *a, *b)?;
-            Ok(())
-        }
-        Instr::AssumeShape(_, _, os, _) => {
-            add_all(list, os.as_slice())?;
-            Ok(())
-        }
+        | Instr::TestLe(a, b, _, _) => add_both(list, *a, *b),
+        Instr::AssumeShape(_, _, os, _) => add_all(list, os.as_slice()),
         Instr::AssertShape(_, o, os, _) => {
             add_constant(list, *o)?;
-            add_all(list, os.as_slice())?;
-            Ok(())
+            add_all(list, os.as_slice())
         }
         Instr::Skip(_)
         | Instr::Undef(_, _)
@@ -151,8 +142,7 @@ fn add_constants(list: &mut Vec<i64>, code: &Instr) -> Result<(), BuildFault>
 fn add_point(list: &mut Vec<i64>, point: &Draft) -> Result<(), BuildFault>
     ensures { OnOk result (list.new.items ≡ list.old.items ++ constants (operands point.now.code)) }
 {
-    add_constants(list, &point.code)?;
-    Ok(())
+    add_constants(list, &point.code)
 }
 
 // The constants of all operands.

@@ -95,7 +95,7 @@ impl<'a> Builder<'a> {
         Ok(())
     }
 
-    // Behind the body of `main` its result is 0.
+    // After the body of `main` its result is 0.
     fn fall(&mut self, entry: &Function, occurrence: usize) -> Result<(), BuildFault>
         requires { IsMain (function_of entry.now) → IsAnswered (known self.old) occurrence }
         ensures same { OnOk result (Keeps self.old self.new) }

@@ -412,7 +412,7 @@ impl<'a> Builder<'a> {
         }
     }
 
-    // The last part goes to the head; behind the exit the variables of the head become undefined.
+    // The last part goes to the head; after the exit the variables of the head become undefined.
     fn end_for(
         &mut self,
         head: &'a ForHead,
@@ -734,7 +734,7 @@ impl<'a> Builder<'a> {
         Ok(())
     }
 
-    // What stands behind the parts of a statement or of a call is lowered.
+    // What stands after the parts of a statement or of a call is lowered.
     fn behind(&mut self, task: Task<'a>) -> Result<(), BuildFault>
         requires is_behind { IsBehind task }
         requires needs { Needs (known self.old) task }

@@ -73,21 +73,21 @@ pub enum Task<'a> {
     Otherwise(Label, Label),
     /// The ways of an `if` meet at a label.
     Merge(Place, Label),
-    /// Behind the body of a `while` with this head and exit.
+    /// After the body of a `while` with this head and exit.
     EndWhile(Place, Label, Label),
-    /// Behind the body of a `do` with this head in an occurrence.
+    /// After the body of a `do` with this head in an occurrence.
     EndDo(Place, &'a Condition, Label, Turns, usize),
-    /// A `for` behind its first part.
+    /// A `for` after its first part.
     For(&'a ForHead, &'a Statement, Context<'a>),
-    /// Behind the body of a `for` with this head.
+    /// After the body of a `for` with this head.
     ForTurn(&'a ForHead, Label, Turns, Context<'a>),
-    /// Behind the last part of a `for` with this head and exit in an occurrence.
+    /// After the last part of a `for` with this head and exit in an occurrence.
     EndFor(&'a ForHead, Label, Label, usize),
-    /// Behind the body of a function that is called at this place.
+    /// After the body of a function that is called at this place.
     EndCall(Place, Context<'a>),
-    /// Behind a call, in an occurrence: its result is put into a variable or a field.
+    /// After a call, in an occurrence: its result is put into a variable or a field.
     Take(Place, Target<'a>, Option<VarId>, usize),
-    /// Behind a call: its result is that of an occurrence, which has this variable for it.
+    /// After a call: its result is that of an occurrence, which has this variable for it.
     Answer(Place, VarId, Option<VarId>, usize),
 }
 

@@ -30,7 +30,7 @@ pub struct Site {
     pub place: Place,
 }
 
-/// A variable by its number among those of its function, and the fields behind it.
+/// A variable by its number among those of its function, and the fields after it.
 #[derive(Clone, Copy)]
 pub struct Target<'a> {
     pub variable: usize,
@@ -49,7 +49,7 @@ impl<'a> Target<'a> {
     }
 }
 
-/// What an instruction sets its variable to: an input, a field behind a variable, or what comes of two operands.
+/// What an instruction sets its variable to: an input, a field after a variable, or what comes of two operands.
 #[derive(Clone, Copy)]
 pub enum Operation {
     Input,
@@ -242,7 +242,7 @@ impl<'a> Builder<'a> {
         unreachable!()
     }
 
-    // The value of a variable, or of fields behind it.
+    // The value of a variable, or of fields after it.
     fn place_value(
         &mut self,
         site: Site,

@@ -43,12 +43,12 @@ computed_fault compute values heap l a None choices kind e = ap fault_in (ap kin
     kind_of (value_of v rest) = kind
 computed_fault compute values heap l a (Some u) choices kind e = absurd (cc)
 
-abbrev value_there : ℤ → Evaluated → ℤ
+abbrev pub value_there : ℤ → Evaluated → ℤ
 value_there z (fault_of k) = z
 value_there z (value_of None rest) = z
 value_there z (value_of (Some v) rest) = v
 
-abbrev rest_there : List Choice → Evaluated → List Choice
+abbrev pub rest_there : List Choice → Evaluated → List Choice
 rest_there c (fault_of k) = c
 rest_there c (value_of v rest) = rest
 

@@ -129,7 +129,7 @@ awaited_result : {g : Graph} {f : Function} {inner : ℕ} {ret : Option VarId} {
 awaited_result {g} {f} {inner} (awaited_nothing e same there) = subst (λ z. IsResult g f inner z) (sym same) no_result
 awaited_result {g} {f} {inner} (awaited v e same owned step) = subst (λ z. IsResult g f inner z) (sym same) (a_result e owned)
 
--- ---- behind the copies: the temporaries and the result become undefined
+-- ---- after the copies: the temporaries and the result become undefined
 undoes_then : {g : Graph} {place : Place} {ts : List VarId} {s u : Stage} (vars : Vars) (heap : Heap) (choices : List Choice) (r : flow.Result) → Undefines g place ts s u
     → Goes (FlowStep g) (at (goal_of u) (flow_without vars ts) heap) choices r → Goes (FlowStep g) (at (goal_of s) vars heap) choices r
 undoes_then vars heap choices r undefines_none goes = goes
@@ -207,7 +207,7 @@ call_of {g} {scope} {late} {callers} {k} {inner = inner} {top = top} {n_goal = n
         both_go (given_all (Some zs) e (next (config (in_a_row f.body (task (end_call values target) rest)) (passed f.parameters f.locals zs) heap) left) refl) (leads.goes _ goes)
         (match (follows zs res) (begun_held fs zs final once scoped receives_at low inside_all h.nested b quiet))
 
-    -- behind the copies there is the Undef of the temporaries, and that of the result
+    -- after the copies there is the Undef of the temporaries, and that of the result
     with_result : (zs : List ℤ) (v : VarId) → all_there (map (operand_value later) os) ≡ Some zs → IsResult g f inner ret → slice_get g.owners v.0 ≡ Some (result inner)
         → Goes (FlowStep g) (at n_goal later heap) left (next (at (goal_of r) (with_value (put_all vs zs vars) v None) heap) left) → PairOf g (config tasks values heap) (goal_of m) vars heap choices
     with_result zs v e res owned goes =

@@ -101,7 +101,7 @@ without_out [] vars v absent = refl
 without_out (u ∷ us) vars v absent =
     without_out us (with_value vars u None) v (λ there. absent (contains_later u v us there)) ∙ set_elsewhere vars u v None (λ e. absent (0, omega arith, e))
 
--- ---- behind the Undef of the temporaries
+-- ---- after the Undef of the temporaries
 -- between statements no temporary has a value
 abbrev pub IsClean : Graph → Vars → Type 0
 IsClean g vars = (v : VarId) (j : ℕ) (kind : Kind) → slice_get g.owners v.0 ≡ Some (temporary j kind) → value_in vars v ≡ None
@@ -138,7 +138,7 @@ cleaned g us vars later x w are new clean within free =
       ]
     ]
 
--- a step, and the Undef of the temporaries behind it
+-- a step, and the Undef of the temporaries after it
 pub undefines_goes : {g : Graph} {place : Place} {us : List VarId} {s u : Stage} (c : Config) (heap : Heap) (choices left : List Choice) (mid : Vars) → Undefines g place us s u
     → FlowStep g c choices (next (at (goal_of s) mid heap) left) → Goes (FlowStep g) c choices (next (at (goal_of u) (flow_without mid us) heap) left)
 undefines_goes c heap choices left mid undefines_none step = one step

@@ -83,7 +83,7 @@ pub data IsResult (g : Graph) (f : Function) (inner : ℕ) : Option VarId → Ty
   no_result : IsResult g f inner None
   a_result : {kind : Kind} {v : VarId} → f.result ≡ Some kind → slice_get g.owners v.0 ≡ Some (result inner) → IsResult g f inner (Some v)
 
--- from a stage on a result is taken, and is undefined behind it; so many variables there are then at most, and the caller goes on at a point
+-- from a stage on a result is taken, and is undefined after it; so many variables there are then at most, and the caller goes on at a point
 pub data TakesResult (g : Graph) (c : Around) (scope : List ℕ) : Target → VarId → Stage → (j b : ℕ) → Type 0 where
   takes_stored : {l : Rattle.mc_semantics.specs.Resolved.Programs.Left} {place : Place} {ret : VarId} {s m u : Stage} {j : ℕ} → Puts g c.out place l (Var ret) [] s m → Undefines g place (ret ∷ []) m u
       → IsIn (length c.function.locals) scope l.variable → variables_of m ≤ j → TakesResult g c scope (stored l place) ret s j (goal_of u)

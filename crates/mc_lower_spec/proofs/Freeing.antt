@@ -29,6 +29,7 @@ use Rattle.mc_lower_spec.proofs.Evaluating.{AreTemporaries, no_temporaries, not_
 use Rattle.mc_lower_spec.proofs.Changing.{IsClean, cleaned, undefines_goes}
 use Rattle.mc_lower_spec.proofs.Storing.{Stores, stores_faults, stores_gives, IsPut, put_faults, put_gives, stored_put}
 use Rattle.mc_lower_spec.proofs.Performing.{Settable, IsPerformed, performed_waits, performed_faults, performed, nothing_set, one_set}
+use Rattle.mc_lower_spec.proofs.Adding.{rest_there, value_there}
 
 -- ---- `free`
 block_frees : (g : Graph) (h : Here) (place : Place) (n q : ℕ) (vars : Vars) (choices : List Choice) (p : ℕ) (block : Option Block)
@@ -97,15 +98,6 @@ made_fault compute values heap x (Some u) None left kind e = ap fault_in (same_k
     same_kind : (k l : FaultKind) → fault_of k ≡ fault_of l → k ≡ l
     same_kind k l d = ap kind_of d
 made_fault compute values heap x (Some u) (Some w) left kind e = absurd (cc)
-
-abbrev value_there : ℤ → Evaluated → ℤ
-value_there z (fault_of k) = z
-value_there z (value_of None rest) = z
-value_there z (value_of (Some v) rest) = v
-
-abbrev rest_there : List Choice → Evaluated → List Choice
-rest_there c (fault_of k) = c
-rest_there c (value_of v rest) = rest
 
 made_value : (compute : ℤ → ℤ → ℤ) (values : Values) (heap : Heap) (x : ℕ) (a b : Option ℤ) (left more : List Choice) (z : ℤ) → value_of (Some z) more ≡ operated compute a b left
     → (computed compute values heap (record { variable = x; fields = [] }) a b ≡ changed (with_variable values x (Some z)) heap) × (more ≡ left)

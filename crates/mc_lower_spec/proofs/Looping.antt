@@ -24,7 +24,7 @@ use Rattle.mc_lower_spec.proofs.Entering.{theirs}
 use Rattle.mc_lower_spec.proofs.Walking.{to_turn}
 use Rattle.mc_lower_spec.proofs.Pairing.{config, PairOf, source_moved, skips_pair, undefines_pair, exits_pair}
 
--- ---- into the body, and behind it
+-- ---- into the body, and after it
 within_outer : (c : Around) (xs : List ℕ) (n first : ℕ) (late : List Limit) → n ≤ first → IsWithin first late → IsWithin n (outer_limits c xs first late)
 within_outer c xs n first late less within = (less, within_less n first late less within)
 

@@ -175,7 +175,7 @@ frames_put g inner fs (v ∷ vs) [] vars owned none all = all
 frames_put g inner fs (v ∷ vs) (z ∷ zs) vars owned none all =
     frames_put g inner fs vs zs (with_value vars v (Some z)) owned.1 none (frames_apart g fs vars v.0 inner owned.0.0 (Some z) owned.0.1 none all)
 
--- behind the Undef of the temporaries of the arguments
+-- after the Undef of the temporaries of the arguments
 put_alike : (g : Graph) (inner : ℕ) (vs : List VarId) (zs : List ℤ) (vars later : Vars) (u : VarId) → AreOwned g inner vs → length vars ≡ length g.owners → length later ≡ length vars → value_in later u ≡ value_in vars u
     → value_in (put_all vs zs later) u ≡ value_in (put_all vs zs vars) u
 put_alike g inner [] zs vars later u owned long same e = e

@@ -36,7 +36,7 @@ pub data Paired {C D K : Type 0} (S : Machine C K) (F : Machine D K) (Match : C 
   both_choose : {d : D} → ((r : Outcome C K) → S c choices r → (s : Outcome D K) × F d choices s × Alike Match r s) → ((s : Outcome D K) → F d choices s → (r : Outcome C K) × S c choices r × Alike Match r s)
       → Paired S F Match weight c choices d
 
--- ---- what is left of a run behind steps that are known
+-- ---- what is left of a run after steps that are known
 -- a run of n steps at most from there, or that end
 abbrev pub Left : {D K : Type 0} → Machine D K → ℕ → Outcome D K → Final → Type 0
 Left F n (next d rest) f = (m : ℕ) × (m < n) × Reaches F m d rest f

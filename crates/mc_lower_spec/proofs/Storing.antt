@@ -112,7 +112,7 @@ walked_put g values place change base z last o w ts us s u a n vars now heap cho
     (both_new [] ts us vars now later (λ v there. absurd (omega (arith, there.1))) grow new newer) clean undone
     (store_step g values place n (goal_of s) z last o later heap choices is)
 
--- an operand with this value is put into the field behind a variable
+-- an operand with this value is put into the field after a variable
 pub putting : {g : Graph} {place : Place} {y z : VarId} {f last : FieldAt} {fs : List FieldAt} {o : Operand} {ts us : List VarId} {s m r u : Stage} (values : Values) (base w : Option ℤ) (vars now : Vars) (heap : Heap) (choices : List Choice)
     → Walks g place y (f ∷ fs) ts s z last us m → Appends g plain place (λ q. Store z (struct_at last.shape) last.field o q) m r → Undefines g place us r u
     → AreTemporaries g ts → OnlyNew [] ts vars now → IsClean g vars → length now ≡ length g.owners → Kept ts us o → operand_value now o ≡ w → base ≡ value_in now y

@@ -234,7 +234,7 @@ conditions_graph =
     (ret 15 ∷ own 15 0 (codes "x") Int ∷ own 15 1 (codes "p") Ptr ∷ temp 0 Int ∷ [])
 
 -- ---- `int x; while (x) { int y; if (y) break; int z; continue; }`: `break` does not name the variable that is
--- declared behind it
+-- declared after it
 abbrev pub while_main : Function
 while_main =
     main_of (some_local (codes "x") Int ∷ some_local (codes "y") Int ∷ some_local (codes "z") Int ∷ [])

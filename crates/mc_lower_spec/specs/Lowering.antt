@@ -131,7 +131,7 @@ pub data AreArguments (g : Graph) (out : ℕ) (s : Stage) : List Argument → Li
 
 mutual
   -- ---- calls
-  -- a call's parameters, arguments and body; the variables of this occurrence of the function are undefined behind
+  -- a call's parameters, arguments and body; the variables of this occurrence of the function are undefined after
   -- it, and its result is there
   pub data Calls (g : Graph) : (out : ℕ) → Place → Call → Stage → Option VarId → Stage → Type 0 where
     calls : {out : ℕ} {place : Place} {c : Call} {f : Function} {vs us ts : List VarId} {os : List Operand}
@@ -204,7 +204,7 @@ mutual
     frees : {c : Around} {place : Place} {e : Expr} {o : Operand} {ts : List VarId} {s m n u : Stage}
         → Evaluates g c.out place e [] s o ts m → Appends g plain place (λ q. Free o q) m n → Undefines g place ts n u
         → Lowers g c (free place e) s u
-    -- where the condition is false, a Fail stands behind it, or an End that is a stop
+    -- where the condition is false, a Fail stands after it, or an End that is a stop
     asserts : {c : Around} {place : Place} {d : Cond} {s : Stage} {b n k : ℕ}
         → Tests g c.out d s b n n k → IsPoint g n plain place Fail → Lowers g c (assert place d) s (stage b (suc n) k)
     assumes : {c : Around} {place : Place} {d : Cond} {s : Stage} {b n k : ℕ}
@@ -247,7 +247,7 @@ mutual
         → Appends g plain h.place (λ to. Skip to) (stage i i j) q → Finishes g c.out h.last q (stage n e l)
         → Appends g plain h.place (λ to. Skip to) (stage e e l) w → Leaves g c.out nowhere h.variables w u
         → Lowers g c (for_loop h a) s u
-    -- what stands behind is reached from elsewhere alone
+    -- what stands after is reached from elsewhere alone
     breaks : {c : Around} {place : Place} {l : Loop} {s : Stage} {b n k : ℕ} → c.loop ≡ Some l
         → Leaves g c.out place c.blocks s (stage l.exit n k) → Lowers g c (break_loop place) s (stage b n k)
     continues : {c : Around} {place : Place} {l : Loop} {s : Stage} {b n k : ℕ} → c.loop ≡ Some l
@@ -278,7 +278,7 @@ pub data Answers (g : Graph) (out : ℕ) : Option Kind → Stage → Stage → T
 abbrev pub IsMain : Function → Type 0
 IsMain f = (f.name ≡ codes "main") × (f.result ≡ Some Int)
 
--- behind the body of `main` its result is 0
+-- after the body of `main` its result is 0
 pub data Falls (g : Graph) (f : Function) (out : ℕ) : Stage → Stage → Type 0 where
   falls_in_main : {v : VarId} {s u : Stage} → IsMain f → IsMade g (result out) v s
       → Appends g plain nowhere (λ q. Copy v (Const (pos 0)) q) s u → Falls g f out s u

@@ -23,7 +23,7 @@ abbrev pub struct_at : ℕ → StructId
 struct_at s = record { 0 = s }
 
 -- ---- expressions
--- what an instruction sets its variable to: an input, a field behind a variable, or what comes of two operands
+-- what an instruction sets its variable to: an input, a field after a variable, or what comes of two operands
 pub data Operation : Type 0 where
   an_input : Operation
   a_field : VarId → FieldAt → Operation
@@ -50,7 +50,7 @@ pub data Takes (g : Graph) (place : Place) (kind : Kind) (operation : Operation)
 
 -- From a variable the fields but the last one are loaded into temporaries: this variable has the last one. The lists
 -- are the temporaries
--- that the statement has used, before and behind.
+-- that the statement has used, before and after.
 pub data Walks (g : Graph) (place : Place) : VarId → List FieldAt → List VarId → Stage → VarId → FieldAt → List VarId
     → Stage → Type 0 where
   walks_none : {y : VarId} {f : FieldAt} {ts : List VarId} {s : Stage} → Walks g place y (f ∷ []) ts s y f ts s
@@ -110,7 +110,7 @@ decides Above a b t f = TestLe a b f t
 decides AtLeast a b t f = TestLe b a t f
 decides Below a b t f = TestLe b a f t
 
--- two operands are compared; behind the test the temporaries become undefined, on the true side and then on the false
+-- two operands are compared; after the test the temporaries become undefined, on the true side and then on the false
 -- side
 pub data Compares (g : Graph) (place : Place) (c : Comparison) (a b : Operand) (ts : List VarId) : Stage
     → (t f points variables : ℕ) → Type 0 where

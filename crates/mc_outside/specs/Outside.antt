@@ -29,7 +29,7 @@ Stays old new = (name : List ℕ) → new name ≡ old name
 abbrev pub OthersStay : List ℕ → (List ℕ → Option (List ℕ)) → (List ℕ → Option (List ℕ)) → Type 0
 OthersStay name old new = (other : List ℕ) → other ≢ name → new other ≡ old other
 
--- what is said of bytes where they are told
+-- what is said of bytes where they are known
 abbrev pub WhereTold : Option (List ℕ) → (List ℕ → Type 0) → Type 0
 WhereTold held P = (bytes : List ℕ) → held ≡ Some bytes → P bytes
 
@@ -43,11 +43,11 @@ pub record IsReadAt (bytes : List ℕ) (at n : ℕ) (buf : List ℕ) : Type 0 wh
   pub within : n ≤ length bytes - at
   pub ended : n ≡ 0 → 0 < length buf → length bytes ≤ at
 
--- the same where the file is told
+-- the same where the file is known
 abbrev pub ReadIs : Option (List ℕ) → ℕ → List ℕ → Result ℕ FileFault → Type 0
 ReadIs held at buf result = WhereTold held (λ bytes. IfOk result (λ n. IsReadAt bytes at n buf))
 
--- a file is empty now: it is told to be so where any file was told, and never told to be anything else
+-- a file is empty now: it is known to be so where any file was told, and never told to be anything else
 pub record IsEmptied (old : List ℕ → Option (List ℕ)) (new : Option (List ℕ)) : Type 0 where
   pub told : (other : List ℕ) → IsSome (old other) → new ≡ Some []
   pub only : WhereTold new (λ bytes. bytes ≡ [])
@@ -63,11 +63,11 @@ abbrev pub Adds : List ℕ → List ℕ → List ℕ → Result ⊤ FileFault �
 Adds old bytes new (Ok _) = new ≡ old ++ bytes
 Adds old bytes new (Err _) = (n : ℕ) × (new ≡ old ++ take n bytes)
 
--- the same where it is told
+-- the same where it is known
 abbrev pub AddsIfTold : Option (List ℕ) → List ℕ → Option (List ℕ) → Result ⊤ FileFault → Type 0
 AddsIfTold old bytes new result = WhereTold old (λ before. (now : List ℕ) × (new ≡ Some now) × Adds before bytes now result)
 
--- a file that is told has no more bytes than a file may have
+-- a file that is known has no more bytes than a file may have
 abbrev pub IsWithinLimit : Option (List ℕ) → Type 0
 IsWithinLimit held = WhereTold held (λ bytes. length bytes ≤ file_limit)
 

@@ -31,7 +31,7 @@ impl<T: Drop> From<AllocFailed<T>> for FileFault {
 /// Files, each with a name. Every call answers `Failed` only where the count of faults rose, and the
 /// count rises only there. A count that stands at 18446744073709551615 stays there.
 pub trait Files {
-    /// What a name holds, where this is told.
+    /// What a name holds, where this is known.
     ghost holds: { Self → List ℕ → Option (List ℕ) };
 
     /// How often a call failed.
@@ -70,7 +70,7 @@ pub trait Files {
 
 /// What is written to. Its faults are counted as those of `Files`.
 pub trait Sink {
-    /// What was written, where this is told.
+    /// What was written, where this is known.
     ghost written: { Self → Option (List ℕ) };
 
     /// How often a call failed.

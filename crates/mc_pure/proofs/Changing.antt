@@ -36,10 +36,10 @@ pick_false : {A : Type 0} (b : Bool) (x y : A) → b ≡ false → cond b x y �
 pick_false true x y e = cc
 pick_false false x y e = refl
 
-yes : (a b : ℕ) → a ≡ b → nat_eq a b ≡ true
+pub yes : (a b : ℕ) → a ≡ b → nat_eq a b ≡ true
 yes a b e = grind (arith, nat_tests)
 
-no : (a b : ℕ) → a ≢ b → nat_eq a b ≡ false
+pub no : (a b : ℕ) → a ≢ b → nat_eq a b ≡ false
 no a b e = grind (arith, nat_tests)
 
 numbers : (a b : ℕ) → (a ≡ b) ⊎ (a ≢ b)

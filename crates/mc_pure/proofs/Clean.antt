@@ -6,7 +6,7 @@ use mir.Syntax.{w128}
 use mir.Val.{SFits, to_z, of_z}
 use lib.Signed.{lt_z}
 
-abbrev Cast : ℤ → ℤ
+abbrev pub Cast : ℤ → ℤ
 Cast z = to_z w128 (of_z w128 z)
 
 pub fits_small : (a : ℤ) → negsuc 1180591620717411303423 ≤ℤ a → a ≤ℤ pos 1180591620717411303424 → SFits w128 a

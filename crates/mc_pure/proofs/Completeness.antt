@@ -1,4 +1,4 @@
--- What is derived holds in a normal form.
+-- What is entailed holds in a normal form.
 use Rattle.std.proofs.Common.{◌≡◌, ◌≢◌, ℤ, pos, ◌+ℤ◌, ◌-ℤ◌, neg_ℤ, ◌≤ℤ◌, refl, sym, ◌∙◌, inl, inr, arith}
 use Rattle.std.proofs.lemmas.Int.{ints, clamps}
 use Rattle.mc_base.specs.declared.ids.NodeId.{NodeId}

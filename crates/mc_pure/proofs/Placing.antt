@@ -15,7 +15,7 @@ use Rattle.mc_pure.proofs.Changing.{same_node, number, decide, same_true, same_f
 pub get_node : {X : Type 0} (xs : List X) (i : ℕ) (x y : X) → slice_get xs i ≡ Some x → slice_get xs i ≡ Some y → x ≡ y
 get_node xs i x y e f = cc
 
-abbrev Entry : Type 0
+abbrev pub Entry : Type 0
 Entry = NodeId × Kind
 
 first_of : (k n : NodeId) (a b : Kind) → (let x : Entry = (k, a) in let y : Entry = (n, b) in x ≡ y) → (k ≡ n) × (a ≡ b)

@@ -1,4 +1,4 @@
--- What is derived is true, and nothing false follows.
+-- What is entailed is true, and nothing false follows.
 use Rattle.std.proofs.Common.{pos, inl, inr, arith}
 use Rattle.std.proofs.lemmas.Int.{ints, clamps}
 use Rattle.mc_base.specs.declared.ids.NodeId.{NodeId}

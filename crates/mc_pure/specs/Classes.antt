@@ -25,7 +25,7 @@ NormalSaysAll = (p : Pure) (nf : NodeId → Row) → IsNormal p nf → (f : Atom
 abbrev pub EachHasNormalForm : Type 0
 EachHasNormalForm = (p : Pure) → RiseFrom 1 p.kinds → IsFit p → IsFalse p ⊎ HasNormalForm p
 
--- the test tells of each atom whether it is derived
+-- the test tells of each atom whether it is entailed
 abbrev pub TellsDerived : Pure → (know : Atom → Bool) → Type 0
 TellsDerived p know = (f : Atom) → (know f ≡ true) ↔ Derived p f
 

@@ -14,7 +14,7 @@ pub data Follows (p : Pure) : Atom → Type 0 where
   itself : {a : NodeId} → IsNode p.kinds a → Follows p (Eq a a (pos 0))
   -- an equality turned round
   turned : {a b : NodeId} {c : ℤ} → Follows p (Eq a b c) → Follows p (Eq b a (neg_ℤ c))
-  -- one equality behind another
+  -- one equality after another
   chained : {a b d : NodeId} {c e : ℤ} → Follows p (Eq a b c) → Follows p (Eq b d e) → Follows p (Eq a d (c +ℤ e))
   -- a range moved along an equality
   shifted : {a b : NodeId} {c lo hi : ℤ} → Follows p (Eq a b c) → Follows p (In b lo hi) → Follows p (In a (lo +ℤ c) (hi +ℤ c))
@@ -42,11 +42,11 @@ pub data IsFalse (p : Pure) : Type 0 where
   apart : {a : NodeId} → Follows p (Ne a a (pos 0)) → IsFalse p
   more : {a : NodeId} {c : ℤ} → c ≢ pos 0 → Follows p (Eq a a c) → IsFalse p
 
--- the atom is derived: it follows, or what is known is false, from which every atom is derived
+-- the atom is entailed: it follows, or what is known is false, from which every atom is entailed
 abbrev pub Derived : Pure → Atom → Type 0
 Derived p f = Follows p f ⊎ IsFalse p
 
--- the nodes are derived equal
+-- the nodes are entailed equal
 abbrev pub AreEqual : Pure → NodeId → NodeId → Type 0
 AreEqual p a b = Derived p (Eq a b (pos 0))
 

@@ -1,4 +1,4 @@
--- What is known of four nodes, three of which blocks start at or follow a number behind.
+-- What is known of four nodes, three of which blocks start at or follow a number after.
 use Rattle.std.specs.Prelude.{ℕ, pos, [], ◌∷◌, get_or}
 use Rattle.mc_base.specs.declared.ids.NodeId.{NodeId}
 use Rattle.mc_base.specs.declared.plain.Kind.TheVariants.{Int, Ptr}

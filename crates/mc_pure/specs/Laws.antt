@@ -1,4 +1,4 @@
--- What holds of derived atoms.
+-- What holds of entailed atoms.
 use Rattle.std.specs.Prelude.{◌≡◌, ◌≢◌, ℕ, ℤ, ◌<ℤ◌, Some, slice_get}
 use Rattle.mc_base.specs.declared.ids.NodeId.{NodeId}
 use Rattle.mc_base.specs.declared.plain.Atom.{Atom}
@@ -12,7 +12,7 @@ use Rattle.mc_pure.specs.Derived.{Follows, IsFalse, Derived, AreEqual}
 abbrev pub IsTrue : Valuation → Pure → Type 0
 IsTrue v p = (f : Atom) → Base p f → IsTrueAtom v f
 
--- then what is derived is true
+-- then what is entailed is true
 abbrev pub DerivedIsTrue : Type 0
 DerivedIsTrue = (p : Pure) (v : Valuation) → IsTrue v p → (f : Atom) → Derived p f → IsTrueAtom v f
 
@@ -20,7 +20,7 @@ DerivedIsTrue = (p : Pure) (v : Valuation) → IsTrue v p → (f : Atom) → Der
 abbrev pub TrueIsNotFalse : Type 0
 TrueIsNotFalse = (p : Pure) (v : Valuation) → IsTrue v p → IsFalse p → ⊥
 
--- what follows from less follows from more
+-- what is entailed by less follows from more
 abbrev pub FollowsFromMore : Type 0
 FollowsFromMore =
     (p q : Pure) → ((n : NodeId) → IsNode p.kinds n → IsNode q.kinds n) → ((f : Atom) → Base p f → Follows q f)

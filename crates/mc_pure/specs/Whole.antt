@@ -1,4 +1,4 @@
--- Lists of atoms that say all that is derived, also inside one class.
+-- Lists of atoms that say all that is entailed, also inside one class.
 use Rattle.std.specs.Prelude.{◌≡◌, ◌==◌, pos, ◌<ℤ◌, List, [], ◌∷◌, ◌++◌, if◌then◌else◌}
 use Rattle.mc_base.specs.declared.ids.NodeId.{NodeId}
 use Rattle.mc_base.specs.declared.plain.Atom.{Atom}
@@ -18,7 +18,7 @@ IsInside p plain (Ne i j c) = IsLeast p i × (i ≡ j) × (pos 0 <ℤ c) × Foll
 IsInside p plain (Eq a b c) = ⊥
 IsInside p plain (In n lo hi) = ⊥
 
--- the canonical list, and behind it the disequalities inside one class
+-- the canonical list, and after it the disequalities inside one class
 pub record IsWholeList (p : Pure) (atoms : List Atom) : Type 0 where
   pub list : List Atom
   pub inner : List Atom

@@ -16,10 +16,8 @@ use crate::rows::{Change, Outcome, Row, Span, put};
 use crate::scope::{Scope, is_within, widened};
 use crate::steps::{Split, Step, cut, link, split_of};
 use mc_base::ranges::Range;
-use mc_base::{Atom, Kind, NoMemory, NodeId};
+use mc_base::{Atom, Kind, NULL, NoMemory, NodeId};
 use std::alloc::Global;
-
-const NULL: NodeId = NodeId(0);
 
 /// A node in a class of its own.
 pub fn alone(node: NodeId, range: &Range) -> Row
@@ -496,7 +494,7 @@ pub fn include_start(known: &Known, rows: &mut [Row], at: NodeId) -> bool
     include_within(known, rows, &atom, Scope::Class(row.rep))
 }
 
-/// What was derived: the rows, and whether what is known can't be true.
+/// What was entailed: the rows, and whether what is known can't be true.
 #[derive(Drop)]
 pub struct Closed {
     pub rows: Vec<Row>,

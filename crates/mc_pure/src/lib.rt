@@ -27,7 +27,7 @@ pub use ask::Term;
 pub use classes::ClassPlace;
 pub use whole::Pure;
 
-/// What is derived is true where what is known is, and then nothing false follows.
+/// What is entailed is true where what is known is, and then nothing false follows.
 pub fn derived_is_true()
     ensures derived { DerivedIsTrue }
     ensures not_false { TrueIsNotFalse }
@@ -44,7 +44,7 @@ pub fn normal_forms_say_all()
     ensures { NormalSaysAll }
 {}
 
-/// Whatever is known is false or has a normal form, and a test tells of each atom whether it is derived.
+/// Whatever is known is false or has a normal form, and a test tells of each atom whether it is entailed.
 pub fn each_is_decided()
     ensures normal { EachHasNormalForm }
     ensures decided { EachIsDecided }
@@ -57,7 +57,7 @@ pub fn contradictions_are_false()
     ensures empty { EmptyRange }
 {}
 
-/// What is known of four nodes is true by some numbers, and some of what follows from it; and three
+/// What is known of four nodes is true by some numbers, and some of what is entailed by it; and three
 /// cases that are false.
 pub fn four_nodes()
     ensures premises { IsTrue values known }

@@ -5,11 +5,9 @@ ghost use Rattle.mc_pure.specs.Pure.{IsNode, AreOfOneKind, kind_of};
 ghost use Rattle.mc_pure.specs.Rows.{nodes_of};
 ghost use Rattle.mc_pure.specs.Nodes.{RiseFrom, DoRise, IsPlace, with_kind};
 
-use mc_base::{Kind, NoMemory, NodeId};
+use mc_base::{Kind, NULL, NoMemory, NodeId};
 use std::alloc::Global;
 use std::marker::Model;
-
-const NULL: NodeId = NodeId(0);
 
 /// Node 0, and other nodes with their kinds, ascending.
 #[derive(Drop)]

@@ -8,10 +8,8 @@ ghost use Rattle.mc_pure.specs.Rows.{IsSmall, IsShort};
 ghost use Rattle.mc_pure.specs.Steps.{CutIs, JoinIs, LinkIs, SplitIs, WithoutIs, IsTame, IsPin};
 
 use crate::rows::{Change, Row, Span, narrow};
-use mc_base::NodeId;
 use mc_base::ranges::Range;
-
-const NULL: NodeId = NodeId(0);
+use mc_base::{NULL, NodeId};
 
 /// What is to be done.
 #[derive(Clone, Copy)]

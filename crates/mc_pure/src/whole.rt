@@ -36,7 +36,7 @@ pub struct Pure {
     wrong: bool,
 }
 
-/// Lets go of what is known. What holds it calls this.
+/// Drops what is known. What holds it calls this.
 impl Drop for Pure {
     fn drop(self) {
         let Pure {
@@ -206,7 +206,7 @@ impl Pure {
         Ok(())
     }
 
-    /// The least range that is derived of a node, where what is known can be true.
+    /// The least range that is entailed of a node, where what is known can be true.
     pub fn range(&self, node: NodeId) -> Range
         requires there { IsNode self.now.kinds node }
         requires not_false { IsFalse self.now → ⊥ }
@@ -248,14 +248,14 @@ impl Pure {
         self.wrong
     }
 
-    /// Whether the atom is derived.
+    /// Whether the atom is entailed.
     pub fn entails(&self, atom: &Atom) -> bool
         ensures { IsTrue result ↔ Derived self.now atom.now }
     {
         self.wrong || ask::entails(&self.known, self.rows.as_slice(), atom)
     }
 
-    /// Whether the terms are derived to be equal.
+    /// Whether the terms are entailed to be equal.
     pub fn are_equal(&self, left: &Term, right: &Term) -> bool
         ensures { IsTrue result ↔ Derived self.now (Eq left.now.node right.now.node (right.now.add -ℤ left.now.add)) }
     {
@@ -270,7 +270,7 @@ impl Pure {
             )
     }
 
-    /// Whether the terms are derived to differ.
+    /// Whether the terms are entailed to differ.
     pub fn are_different(&self, left: &Term, right: &Term) -> bool
         ensures { IsTrue result ↔ Derived self.now (Ne left.now.node right.now.node (right.now.add -ℤ left.now.add)) }
     {
@@ -285,7 +285,7 @@ impl Pure {
             )
     }
 
-    /// Whether the term is derived to lie from `lo` to `hi`.
+    /// Whether the term is entailed to lie from `lo` to `hi`.
     pub fn lies_in(&self, term: &Term, lo: i64, hi: i64) -> bool
         ensures { IsTrue result ↔ Derived self.now (In term.now.node (lo -ℤ term.now.add) (hi -ℤ term.now.add)) }
     {

@@ -7,7 +7,6 @@ pub mod Within
 pub mod Listing
 pub mod Whole
 pub mod Single
-pub mod Clean
 pub mod Others
 pub mod Forgets
 pub mod Heirs

@@ -22,9 +22,9 @@ use nodes::numbered;
 use spans::put_ranges;
 use std::alloc::Global;
 
-/// What is known of pairs of nodes, each pair a node of the result by its place: the equalities that are derived on both
+/// What is known of pairs of nodes, each pair a node of the result by its place: the equalities that are entailed on both
 /// sides, the hull of the two ranges, for numbers from the third pass on widened from the left's by the thresholds, and
-/// the disequalities that are derived on both sides and have offset 0 or are on the canonical list of one. Both sides
+/// the disequalities that are entailed on both sides and have offset 0 or are on the canonical list of one. Both sides
 /// can be true; the nodes of a pair are there and of one kind, node 0 being of every kind.
 pub fn join(
     alloc: Global,

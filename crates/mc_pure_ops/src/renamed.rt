@@ -10,11 +10,9 @@ ghost use Rattle.mc_pure_ops.specs.Renamed.Renamed.{IsOneKind, CanRename, HasNoO
 ghost use Rattle.mc_pure_ops.specs.Renamed.Laws.{ImagesAreOneList, RenamedFits};
 
 use crate::renaming::Renaming;
-use mc_base::{Atom, Kind, NoMemory, NodeId};
+use mc_base::{Atom, Kind, NULL, NoMemory, NodeId};
 use mc_pure::Pure;
 use std::alloc::Global;
-
-const NULL: NodeId = NodeId(0);
 
 /// The images with their kinds are one list, and what is known of them may be known of nodes.
 pub fn renamed_is_known()
@@ -40,8 +38,7 @@ fn put_node(renamed: &mut Pure, node: NodeId, kind: Kind) -> Result<(), NoMemory
     if renamed.has(node) {
         return Ok(());
     }
-    renamed.node(node, kind)?;
-    Ok(())
+    renamed.node(node, kind)
 }
 
 /// The images of the nodes, each with their kind.
@@ -123,8 +120,7 @@ pub fn can_rename(alloc: Global, pure: &Pure, renaming: &Renaming) -> Result<boo
     if renaming.image(NULL).0 != 0 {
         return Ok(false);
     }
-    let one = have_one_kind(alloc, pure, renaming)?;
-    Ok(one)
+    have_one_kind(alloc, pure, renaming)
 }
 
 /// What is known, with the image of each node in its place; a node without an image stays. Node 0 stays, and nodes with

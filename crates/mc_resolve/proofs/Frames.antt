@@ -31,7 +31,7 @@ pub before_push : (done : List Stmt) (a : Stmt) (more : Stmts) → before (done 
 before_push [] a more = refl
 before_push (b ∷ done) a more = ap (then b) (before_push done a more)
 
--- a block ends behind its last statement
+-- a block ends after its last statement
 pub block_ended : (n : Naming) (s around : Scope) (m : Marks) (frames : List Frame) (ss : tree.Stmts) (done : List Stmt) (own : List Variable) (variables : List ℕ)
     → ss ≡ tree.no_more → own ≡ s.own → variables ≡ numbers_in n.locals own → around ≡ outside m s
     → plugged n around frames (block variables (stmts_of done)) ≡ plugged n (outside m (behind_all n.tables s ss)) frames (block_left n s ss done (resolved_statements n s ss))

@@ -1,5 +1,5 @@
 -- The numbers of variables by their places, where one more is added.
-use Rattle.std.proofs.Common.{◌≡◌, ℕ, suc, List, [], ◌∷◌, ◌++◌, ◌+◌, refl, ap, ap₂, sym, subst, ◌∙◌, Bool, true, false, ◌&&◌, cond, not, length, is_some, true≢false, eqb-true, arith, nat_lt}
+use Rattle.std.proofs.Common.{◌≡◌, ℕ, suc, List, [], ◌∷◌, ◌++◌, ◌+◌, refl, ap, ap₂, sym, subst, ◌∙◌, Bool, true, false, ◌&&◌, cond, not, length, is_some, true≢false, eqb-true}
 use Rattle.std.specs.List.{prefix_len}
 use Rattle.std.specs.Option.{option_or}
 use Rattle.std.specs.Prelude.{Option, Some, None, position, option_map, ◌==◌}
@@ -9,28 +9,12 @@ use Rattle.mc_semantics.specs.Configs.{is_place}
 use Rattle.mc_c_types.specs.declared.scope.Named.{Named}
 use Rattle.mc_resolve.specs.Numbered.{AreNumbers}
 use Rattle.mc_resolve.specs.declared.locals.PlaceKey.{PlaceKey}
+use Rattle.mc_c_syntax.proofs.NamesLemmas.Firsts.{or_none, or_there}
+use Rattle.mc_c_syntax.proofs.NamesLemmas.Positions.{position_step, push_step}
 
 -- ---- first places in lists
-later_place : (n len : ℕ) (b c : Bool) → nat_lt (1 + n) (suc len) ≡ b → nat_lt n len ≡ c → cond b (Some (1 + n)) None ≡ option_map (λ i. suc i) (cond c (Some n) None)
-later_place n len true true p q = ap (λ i. Some i) (omega arith)
-later_place n len false false p q = refl
-later_place n len true false p q = grind arith
-later_place n len false true p q = grind arith
-
-position_step : (b : Bool) (n len : ℕ)
-    → cond (nat_lt (cond (not b) (1 + n) 0) (suc len)) (Some (cond (not b) (1 + n) 0)) None ≡ cond b (Some 0) (option_map (λ i. suc i) (cond (nat_lt n len) (Some n) None))
-position_step true n len = let first : nat_lt 0 (suc len) ≡ true = grind arith in rw first refl
-position_step false n len = later_place n len _ _ refl refl
-
 position_cons : {X : Type 0} (p : X → Bool) (x : X) (xs : List X) → position p (x ∷ xs) ≡ cond (p x) (Some 0) (option_map (λ i. suc i) (position p xs))
 position_cons p x xs = position_step (p x) (prefix_len (λ y. not (p y)) xs) (length xs)
-
-push_step : (b : Bool) (o : Option ℕ) (c : Bool) (n : ℕ)
-    → cond b (Some 0) (option_map (λ i. suc i) (option_or o (cond c (Some n) None))) ≡ option_or (cond b (Some 0) (option_map (λ i. suc i) o)) (cond c (Some (suc n)) None)
-push_step true o c n = refl
-push_step false (Some i) c n = refl
-push_step false None true n = refl
-push_step false None false n = refl
 
 position_push : {X : Type 0} (p : X → Bool) (xs : List X) (y : X) → position p (xs ++ y ∷ []) ≡ option_or (position p xs) (cond (p y) (Some (length xs)) None)
 position_push p [] y = position_cons p y []
@@ -50,14 +34,6 @@ same_place p q e =
 -- the number of the first variable at a place, if one is there
 abbrev pub number_at : List Named → Place → Option ℕ
 number_at vs place = position (λ v. is_place v.place place) vs
-
-or_none : (o : Option ℕ) → o ≡ option_or o None
-or_none None = refl
-or_none (Some i) = refl
-
-or_there : (o p : Option ℕ) → is_some o ≡ true → o ≡ option_or o p
-or_there None p there = absurd (true≢false (sym there))
-or_there (Some i) p there = refl
 
 -- a place that is there again leaves the numbers
 kept : (vs : List Named) (place other : Place) (b : Bool) → is_place place other ≡ b → is_some (number_at vs place) ≡ true

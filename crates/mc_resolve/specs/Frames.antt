@@ -13,7 +13,7 @@ use Rattle.mc_c_walk.specs.declared.variables.Marks.{Marks}
 use Rattle.mc_resolve.specs.declared.statements.Frame.{Frame}
 use Rattle.mc_resolve.specs.declared.statements.Next.{Next}
 
--- a statement, and the scope behind it
+-- a statement, and the scope after it
 pub record Placed : Type 0 where
   pub statement : Stmt
   pub scope : Scope
@@ -27,7 +27,7 @@ before (a ∷ done) more = then a (before done more)
 abbrev pub block_left : Naming → Scope → tree.Stmts → List Stmt → Stmts → Stmt
 block_left n s rest done more = block (numbers_in n.locals (block_variables n.tables s rest)) (before done more)
 
--- what comes of all frames when the statement that they wait for is this one, and the scope behind it this one
+-- what comes of all frames when the statement that they wait for is this one, and the scope after it this one
 abbrev pub plugged : Naming → Scope → List Frame → Stmt → Placed
 plugged n s [] made = record { statement = made; scope = s }
 plugged n s (Frame.Block rest done marks ∷ frames) made =
@@ -43,7 +43,7 @@ plugged n s (Frame.While p c ∷ frames) made = plugged n s frames (while_loop p
 plugged n s (Frame.Do p c ∷ frames) made = plugged n s frames (do_loop p made (resolved_condition n (visible s) (named.condition_of c.now)))
 plugged n s (Frame.For head kept ∷ frames) made = plugged n (behind_heads kept s) frames (for_loop (head_of (box_value head)) made)
 
--- the same, before a statement or behind one
+-- the same, before a statement or after one
 abbrev pub finished : Naming → Scope → List Frame → Next → Placed
 finished n s frames (Next.Enter a) =
     plugged n (behind n.tables s (named.statement_of a.now)) frames (resolved_statement n s (named.statement_of a.now))

@@ -121,8 +121,7 @@ fn enter_link<'a>(
 {
     parts.push(Part::Two(how))?;
     parts.push(Part::Whole(right))?;
-    parts.push(Part::Whole(left))?;
-    Ok(())
+    parts.push(Part::Whole(left))
 }
 
 /// A comparison.
@@ -202,7 +201,7 @@ fn step<'a>(
     Ok(())
 }
 
-/// The condition with its names put away.
+/// The condition with its names resolved.
 pub fn resolve_condition(
     alloc: Global,
     names: NamesHere,

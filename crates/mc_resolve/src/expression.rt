@@ -82,8 +82,7 @@ fn enter_join<'a>(
 {
     work.push(Work::Two(how))?;
     work.push(Work::Whole(right))?;
-    work.push(Work::Whole(left))?;
-    Ok(())
+    work.push(Work::Whole(left))
 }
 
 /// An expression is made, or its parts are next.
@@ -145,7 +144,7 @@ fn step<'a>(
     Ok(())
 }
 
-/// The expression with its names put away.
+/// The expression with its names resolved.
 pub fn resolve_expression(
     alloc: Global,
     names: NamesHere,

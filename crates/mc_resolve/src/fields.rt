@@ -10,7 +10,7 @@ pub struct FieldNames<'a> {
     structs: Vec<Names<'a>>,
 }
 
-/// Lets go of its parts. What holds one calls this.
+/// Drops its parts. What holds one calls this.
 impl Drop for FieldNames<'_> {
     fn drop(self) {
         let FieldNames { structs } = self;

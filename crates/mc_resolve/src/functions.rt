@@ -15,7 +15,7 @@ pub struct FunctionNames<'a> {
     names: Names<'a>,
 }
 
-/// Lets go of its parts. What holds one calls this.
+/// Drops its parts. What holds one calls this.
 impl Drop for FunctionNames<'_> {
     fn drop(self) {
         let FunctionNames { names } = self;

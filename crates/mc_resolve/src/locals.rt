@@ -47,7 +47,7 @@ pub struct Locals<'a> {
     numbers: IndexMap<PlaceKey, usize>,
 }
 
-/// Lets go of its parts. What holds one calls this.
+/// Drops its parts. What holds one calls this.
 impl Drop for Locals<'_> {
     fn drop(self) {
         let Locals { variables, numbers } = self;

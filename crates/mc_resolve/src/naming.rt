@@ -101,7 +101,7 @@ impl<'s, 'a> NamesHere<'s, 'a> {
         predicate_in(self.naming.defs, name)
     }
 
-    /// The type behind a field, and anything where it is not there.
+    /// The type after a field, and anything where it is not there.
     fn behind_field(&self, pointer: VariableType, field: &Name) -> VariableType
         ensures { result ≡ behind_fields (tables_held self.now.naming.tables.now) pointer (field.now ∷ []) }
     {
@@ -111,7 +111,7 @@ impl<'s, 'a> NamesHere<'s, 'a> {
         }
     }
 
-    /// The field behind a pointer of this type.
+    /// The field after a pointer of this type.
     fn field(&self, pointer: VariableType, field: &Name) -> FieldAt
         requires { IsNumbered self.now.naming }
         ensures { field_of result
@@ -128,7 +128,7 @@ impl<'s, 'a> NamesHere<'s, 'a> {
         }
     }
 
-    /// The fields, one behind the other.
+    /// The fields, one after the other.
     fn field_row(
         &self,
         alloc: Global,
@@ -149,7 +149,7 @@ impl<'s, 'a> NamesHere<'s, 'a> {
         Ok(made)
     }
 
-    /// A variable, or a field behind it.
+    /// A variable, or a field after it.
     pub fn left(&self, alloc: Global, left: &NamedLeft) -> Result<LeftValue, AllocError>
         requires { IsNumbered self.now.naming }
         ensures { IfOk result (λ made. left_of made ≡ resolved_left (naming_at self.now) (visible_at self.now) (named_left left.now)) }

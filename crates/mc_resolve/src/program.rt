@@ -82,7 +82,7 @@ fn body_scope<'a>(
     Ok(scope)
 }
 
-/// A function with its names put away, among structs and functions that are known by their names.
+/// A function with its names resolved, among structs and functions that are known by their names.
 fn resolve_function<'a>(
     alloc: Global,
     tables: &NameTables<'a>,
@@ -114,7 +114,7 @@ fn resolve_function<'a>(
     })
 }
 
-/// A function, with its names put away, comes to the end if it is defined.
+/// A function, with its names resolved, comes to the end if it is defined.
 fn push_defined<'a>(
     alloc: Global,
     tables: &NameTables<'a>,
@@ -137,7 +137,7 @@ fn push_defined<'a>(
     Ok(())
 }
 
-/// The functions of a program that are defined, with their names put away.
+/// The functions of a program that are defined, with their names resolved.
 fn resolve_functions<'a>(
     alloc: Global,
     tables: &NameTables<'a>,
@@ -156,7 +156,7 @@ fn resolve_functions<'a>(
     Ok(made)
 }
 
-/// The program with its names put away.
+/// The program with its names resolved.
 ///
 /// # Errors
 ///

@@ -146,7 +146,7 @@ fn resolve_action(
     }
 }
 
-/// The simple statement with its names put away.
+/// The simple statement with its names resolved.
 pub fn resolve_simple(
     alloc: Global,
     names: NamesHere,

@@ -43,7 +43,7 @@ pub enum Frame<'a> {
     For(Box<ForHead>, usize),
 }
 
-/// Where the work stands: before a statement, or behind one that is resolved.
+/// Where the work stands: before a statement, or after one that is resolved.
 #[derive(Drop)]
 pub enum Next<'a> {
     Enter(&'a tree::Statement),
@@ -278,7 +278,7 @@ fn close<'a>(
     }
 }
 
-/// The statement with its names put away; the scope is the one behind it then.
+/// The statement with its names resolved; the scope is the one after it then.
 fn resolve_statement<'a>(
     alloc: Global,
     naming: Naming<'_, 'a>,
@@ -303,7 +303,7 @@ fn resolve_statement<'a>(
     }
 }
 
-/// The statements of a body with their names put away.
+/// The statements of a body with their names resolved.
 #[tactic(auto, using(crate::proofs::Frames::before_end, crate::proofs::Frames::before_push))]
 pub fn resolve_body<'a>(
     alloc: Global,

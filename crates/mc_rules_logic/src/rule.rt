@@ -16,7 +16,7 @@ use mc_state::LogicFault;
 use mc_symbolic::State;
 use std::alloc::Global;
 
-/// A rule of logic, with the entries of its line. It is judged by what is derived in a state and by the lists that are
+/// A rule of logic, with the entries of its line. It is judged by what is entailed in a state and by the lists that are
 /// written where a node is forgotten.
 pub trait LogicRule {
     ghost judged: { Self → Test → Left → List Def → Option Node → Symbolic → Judged (List Symbolic) };

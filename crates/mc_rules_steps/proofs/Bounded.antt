@@ -29,7 +29,8 @@ use Rattle.mc_rules_steps.specs.Next.{Next}
 use Rattle.mc_rules_steps.specs.Operands.{with_operand, with_operands}
 use Rattle.mc_rules_steps.specs.Steps.{moved_to, is_single, stays_int, in_range, range_atoms, offset_atom, sum_offsets, difference_offsets, no_offsets, freed_atoms, le_atoms, gt_atoms, Computes}
 use Rattle.mc_rules_steps.specs.Steps.{S8Is, S9Is, S10Is, S12Is, S13Is, S14Is, S15Is, S16Is}
-use Rattle.mc_rules_steps.specs.Laws.{S1, S2, S3, S4, S5, S6, S7, S8, S9, S10, S11, S12, S13, S14, S15, S16, S17, S18, StepsStayBounded}
+use Rattle.mc_state.specs.declared.line.InstrRule.TheVariants as rule
+use Rattle.mc_rules_steps.specs.Laws.{StepsStayBounded}
 use Rattle.mc_rules_steps.proofs.LowerLaws.{BoundLaws}
 use Rattle.mc_rules_steps.proofs.Lists.{all_append, all_map, known_field, known_set, edge_at}
 use Rattle.mc_rules_steps.proofs.Operands.{operand_there, two_there, many_there}
@@ -205,26 +206,26 @@ module _ (laws : BoundLaws) where
       subst (AllByRecursion IsFit) (sym i.gives) (subst IsFit (sym i.side_is) (many.bounded, there), ((b, tt), tt))
 
   pub steps_stay_bounded : StepsStayBounded
-  steps_stay_bounded flow defs p s next b (S1 i) = one_fits next i.q s i.gives b
-  steps_stay_bounded flow defs p s next b (S2 i) =
+  steps_stay_bounded flow defs p s next b (rule.S1, i) = one_fits next i.q s i.gives b
+  steps_stay_bounded flow defs p s next b (rule.S2, i) =
       let operand = operand_there laws s i.from i.n b i.known in
       one_fits next i.q (with_var (with_operand s i.from) i.x (Some i.n)) i.gives (set_bounded (with_operand s i.from) i.x i.n operand.bounded operand.all.0)
-  steps_stay_bounded flow defs p s next b (S3 i) = one_fits next i.q (without_vars s i.xs) i.gives (forgotten_bounded i.xs s b)
-  steps_stay_bounded flow defs p s next b (S4 i) =
+  steps_stay_bounded flow defs p s next b (rule.S3, i) = one_fits next i.q (without_vars s i.xs) i.gives (forgotten_bounded i.xs s b)
+  steps_stay_bounded flow defs p s next b (rule.S4, i) =
       let t = with_nodes s (Int ∷ []) in
       one_fits next i.q (with_var t i.x (Some (next_node s))) i.gives (set_bounded t i.x (next_node s) (laws.nodes s (Int ∷ []) b) (laws.new s (Int ∷ [])).0.0)
-  steps_stay_bounded flow defs p s next b (S5 i) = computes_bounded _ sum_offsets sum_there s next i.x i.o i.o' i.q i.computes b
-  steps_stay_bounded flow defs p s next b (S6 i) =
+  steps_stay_bounded flow defs p s next b (rule.S5, i) = computes_bounded _ sum_offsets sum_there s next i.x i.o i.o' i.q i.computes b
+  steps_stay_bounded flow defs p s next b (rule.S6, i) =
       computes_bounded _ difference_offsets (λ kinds n a b left right is l r. offset_there kinds n a left right _ is l) s next i.x i.o i.o' i.q i.computes b
-  steps_stay_bounded flow defs p s next b (S7 i) = computes_bounded _ no_offsets (λ kinds n a b left right is l r. tt) s next i.x i.o i.o' i.q i.computes b
-  steps_stay_bounded flow defs p s next b (S8 i) = s8_bounded flow p s next i b
-  steps_stay_bounded flow defs p s next b (S9 i) = s9_bounded flow p s next i b
-  steps_stay_bounded flow defs p s next b (S10 i) = s10_bounded flow p s next i b
-  steps_stay_bounded flow defs p s next b (S11 i) = one_fits next i.q (with_operand s i.from) i.gives (operand_there laws s i.from i.n b i.known).bounded
-  steps_stay_bounded flow defs p s next b (S12 i) = s12_bounded flow p s next i b
-  steps_stay_bounded flow defs p s next b (S13 i) = s13_bounded flow p s next i b
-  steps_stay_bounded flow defs p s next b (S14 i) = s14_bounded flow p s next i b
-  steps_stay_bounded flow defs p s next b (S15 i) = s15_bounded flow p s next i b
-  steps_stay_bounded flow defs p s next b (S16 i) = s16_bounded flow p s next i b
-  steps_stay_bounded flow defs p s next b (S17 i) = subst (AllByRecursion IsFit) (sym i.gives) tt
-  steps_stay_bounded flow defs p s next b (S18 i) = one_fits next i.q s i.gives b
+  steps_stay_bounded flow defs p s next b (rule.S7, i) = computes_bounded _ no_offsets (λ kinds n a b left right is l r. tt) s next i.x i.o i.o' i.q i.computes b
+  steps_stay_bounded flow defs p s next b (rule.S8, i) = s8_bounded flow p s next i b
+  steps_stay_bounded flow defs p s next b (rule.S9, i) = s9_bounded flow p s next i b
+  steps_stay_bounded flow defs p s next b (rule.S10, i) = s10_bounded flow p s next i b
+  steps_stay_bounded flow defs p s next b (rule.S11, i) = one_fits next i.q (with_operand s i.from) i.gives (operand_there laws s i.from i.n b i.known).bounded
+  steps_stay_bounded flow defs p s next b (rule.S12, i) = s12_bounded flow p s next i b
+  steps_stay_bounded flow defs p s next b (rule.S13, i) = s13_bounded flow p s next i b
+  steps_stay_bounded flow defs p s next b (rule.S14, i) = s14_bounded flow p s next i b
+  steps_stay_bounded flow defs p s next b (rule.S15, i) = s15_bounded flow p s next i b
+  steps_stay_bounded flow defs p s next b (rule.S16, i) = s16_bounded flow p s next i b
+  steps_stay_bounded flow defs p s next b (rule.S17, i) = subst (AllByRecursion IsFit) (sym i.gives) tt
+  steps_stay_bounded flow defs p s next b (rule.S18, i) = one_fits next i.q s i.gives b

@@ -11,14 +11,14 @@ use Rattle.mc_flow.specs.declared.instr.Instr.{Instr}
 use Rattle.mc_flow.specs.Valid.{IsValid, PointFits, FitsKinds, GoesOn, targets}
 use Rattle.mc_rules_steps.specs.Examples as ex
 
-all_none : {X : Type 0} (P : X → Type 0) → All P []
+pub all_none : {X : Type 0} (P : X → Type 0) → All P []
 all_none P k d lt = absurd (let less : k < 0 = lt in omega arith)
 
-all_one : {X : Type 0} (P : X → Type 0) (x : X) → P x → All P (x ∷ [])
+pub all_one : {X : Type 0} (P : X → Type 0) (x : X) → P x → All P (x ∷ [])
 all_one P x h zero d lt = h
 all_one P x h (suc k) d lt = absurd (let less : suc k < 1 = lt in omega arith)
 
-all_two : {X : Type 0} (P : X → Type 0) (x y : X) → P x → P y → All P (x ∷ y ∷ [])
+pub all_two : {X : Type 0} (P : X → Type 0) (x y : X) → P x → P y → All P (x ∷ y ∷ [])
 all_two P x y h g zero d lt = h
 all_two P x y h g (suc zero) d lt = g
 all_two P x y h g (suc (suc k)) d lt = absurd (let less : suc (suc k) < 2 = lt in omega arith)

@@ -18,7 +18,7 @@ use Rattle.mc_state.specs.Laws.{DerivedIsTrue, NoneStandsForFalse}
 use Rattle.mc_state.specs.State.{with_var}
 use Rattle.mc_rules_steps.specs.Examples as ex
 use Rattle.mc_rules_steps.specs.JudgedExamples.{Gives, GivesByRanges, IsFirstUnmet, with_segment, without_x, without_y, known_result, only, greatest, least}
-use Rattle.mc_rules_steps.specs.Judges as rule
+use Rattle.mc_state.specs.declared.line.InstrRule.TheVariants as rule
 use Rattle.mc_rules_steps.specs.Steps.{moved_to}
 use Rattle.mc_rules_steps.specs.Sums.{sum, difference}
 use Rattle.mc_rules_steps.specs.Unmet.{LacksBlock}

@@ -22,7 +22,8 @@ use Rattle.mc_rules_steps.specs.Next.{Next}
 use Rattle.mc_rules_steps.specs.Operands.{code_at, operand_node, with_operand, AreNodesOf, HasBlock}
 use Rattle.mc_rules_steps.specs.Steps.{S8Is, S9Is, S11Is, S12Is, S18Is}
 use Rattle.mc_rules_steps.specs.Unmet.{taken, IsFirstUnknown, AreKnown, Lacks, IsGap, IsUnmet}
-use Rattle.mc_rules_steps.specs.Laws.{IsStep, S1, S2, S3, S4, S5, S6, S7, S8, S9, S10, S11, S12, S13, S14, S15, S16, S17, S18, UnmetHasNoStep}
+use Rattle.mc_state.specs.declared.line.InstrRule.TheVariants as rule
+use Rattle.mc_rules_steps.specs.Laws.{IsStep, UnmetHasNoStep}
 use Rattle.mc_rules_steps.proofs.Operands.{operand_env}
 use Rattle.mc_rules_steps.proofs.OneBlock.{one_block}
 
@@ -138,55 +139,55 @@ module _ (law : BlocksAtOneNode) (flow : Flow) (defs : List Def) (p : PointId) (
   plain code a b c e f = by_gap (LacksNothing defs s code) a b c (λ pred n noshape l. noshape pred n refl) e f
 
   no_step : (gap : Gap) → IsUnmet flow defs p s gap → IsNoShape gap → IsStep flow p s next → ⊥
-  no_step gap u noshape (S1 i) = not_unmet flow defs p s gap (instr.Skip i.q) i.at noshape u tt (plain (instr.Skip i.q) (λ x noshape l. l) (λ n noshape l. l) (λ noshape l. l) (λ n f noshape l. l) (λ flag noshape l. l))
-  no_step gap u noshape (S2 i) =
+  no_step gap u noshape (rule.S1, i) = not_unmet flow defs p s gap (instr.Skip i.q) i.at noshape u tt (plain (instr.Skip i.q) (λ x noshape l. l) (λ n noshape l. l) (λ noshape l. l) (λ n f noshape l. l) (λ flag noshape l. l))
+  no_step gap u noshape (rule.S2, i) =
       let code = instr.Copy i.x i.from i.q in
       not_unmet flow defs p s gap code i.at noshape u (one_known s i.from i.n i.known) (plain code (λ x noshape l. l) (λ n noshape l. l) (λ noshape l. l) (λ n f noshape l. l) (λ flag noshape l. l))
-  no_step gap u noshape (S3 i) =
+  no_step gap u noshape (rule.S3, i) =
       let code = instr.Undef i.xs i.q in
       not_unmet flow defs p s gap code i.at noshape u tt (plain code (λ x noshape l. l) (λ n noshape l. l) (λ noshape l. l) (λ n f noshape l. l) (λ flag noshape l. l))
-  no_step gap u noshape (S4 i) =
+  no_step gap u noshape (rule.S4, i) =
       let code = instr.Input i.x i.q in
       not_unmet flow defs p s gap code i.at noshape u tt (plain code (λ x noshape l. l) (λ n noshape l. l) (λ noshape l. l) (λ n f noshape l. l) (λ flag noshape l. l))
-  no_step gap u noshape (S5 i) =
+  no_step gap u noshape (rule.S5, i) =
       let code = instr.Add i.x i.o i.o' i.q in
       let k = i.computes in
       not_unmet flow defs p s gap code i.at noshape u (two_known s i.o i.o' k.a k.b k.left_known k.right_known) (plain code (λ x noshape l. l) (λ n noshape l. l) (λ noshape l. l) (λ n f noshape l. l) (λ flag noshape l. l))
-  no_step gap u noshape (S6 i) =
+  no_step gap u noshape (rule.S6, i) =
       let code = instr.Sub i.x i.o i.o' i.q in
       let k = i.computes in
       not_unmet flow defs p s gap code i.at noshape u (two_known s i.o i.o' k.a k.b k.left_known k.right_known) (plain code (λ x noshape l. l) (λ n noshape l. l) (λ noshape l. l) (λ n f noshape l. l) (λ flag noshape l. l))
-  no_step gap u noshape (S7 i) =
+  no_step gap u noshape (rule.S7, i) =
       let code = instr.Mul i.x i.o i.o' i.q in
       let k = i.computes in
       not_unmet flow defs p s gap code i.at noshape u (two_known s i.o i.o' k.a k.b k.left_known k.right_known) (plain code (λ x noshape l. l) (λ n noshape l. l) (λ noshape l. l) (λ n f noshape l. l) (λ flag noshape l. l))
-  no_step gap u noshape (S8 i) =
+  no_step gap u noshape (rule.S8, i) =
       let code = instr.Load i.x i.y i.shape i.f i.q in
       not_unmet flow defs p s gap code i.at noshape u ((i.n, i.known), tt) (load_lacks i)
-  no_step gap u noshape (S9 i) =
+  no_step gap u noshape (rule.S9, i) =
       let code = instr.Store i.y i.shape i.f i.from i.q in
       not_unmet flow defs p s gap code i.at noshape u (known_more s s i.from (Var i.y ∷ []) i.m refl i.value ((i.n, i.known), tt)) (store_lacks i)
-  no_step gap u noshape (S10 i) =
+  no_step gap u noshape (rule.S10, i) =
       let code = instr.Malloc i.x i.shape i.q in
       not_unmet flow defs p s gap code i.at noshape u tt (plain code (λ x noshape l. l) (λ n noshape l. l) (λ noshape l. l) (λ n f noshape l. l) (λ flag noshape l. l))
-  no_step gap u noshape (S11 i) = not_unmet flow defs p s gap (instr.Free i.from i.q) i.at noshape u (one_known s i.from i.n i.known) (null_lacks i)
-  no_step gap u noshape (S12 i) = not_unmet flow defs p s gap (instr.Free i.from i.q) i.at noshape u (one_known s i.from i.n i.known) (free_lacks i)
-  no_step gap u noshape (S13 i) =
+  no_step gap u noshape (rule.S11, i) = not_unmet flow defs p s gap (instr.Free i.from i.q) i.at noshape u (one_known s i.from i.n i.known) (null_lacks i)
+  no_step gap u noshape (rule.S12, i) = not_unmet flow defs p s gap (instr.Free i.from i.q) i.at noshape u (one_known s i.from i.n i.known) (free_lacks i)
+  no_step gap u noshape (rule.S13, i) =
       let code = instr.TestEq i.o i.o' i.t i.f in
       not_unmet flow defs p s gap code i.at noshape u (two_known s i.o i.o' i.a i.b i.left_known i.right_known) (plain code (λ x noshape l. l) (λ n noshape l. l) (λ noshape l. l) (λ n f noshape l. l) (λ flag noshape l. l))
-  no_step gap u noshape (S14 i) =
+  no_step gap u noshape (rule.S14, i) =
       let code = instr.TestLe i.o i.o' i.t i.f in
       not_unmet flow defs p s gap code i.at noshape u (two_known s i.o i.o' i.a i.b i.left_known i.right_known) (plain code (λ x noshape l. l) (λ n noshape l. l) (λ noshape l. l) (λ n f noshape l. l) (λ flag noshape l. l))
-  no_step gap u noshape (S15 i) =
+  no_step gap u noshape (rule.S15, i) =
       let code = instr.AssumeShape i.pred i.x i.os i.q in
       not_unmet flow defs p s gap code i.at noshape u (known_many s i.os s i.args refl i.known) (plain code (λ x noshape l. l) (λ n noshape l. l) (λ noshape l. l) (λ n f noshape l. l) (λ flag noshape l. l))
-  no_step gap u noshape (S16 i) =
+  no_step gap u noshape (rule.S16, i) =
       let code = instr.AssertShape i.pred i.o i.os i.q in
       not_unmet flow defs p s gap code i.at noshape u (known_more s s i.o i.os i.n refl i.known (known_many s i.os (with_operand s i.o) i.args (operand_env s i.o) i.args_known))
       (plain code (λ x noshape l. l) (λ n noshape l. l) (λ noshape l. l) (λ n f noshape l. l) (λ flag noshape l. l))
-  no_step gap u noshape (S17 i) =
+  no_step gap u noshape (rule.S17, i) =
       not_unmet flow defs p s gap instr.End i.at noshape u tt (plain instr.End (λ x noshape l. l) (λ n noshape l. l) (λ noshape l. l) (λ n f noshape l. l) (λ flag noshape l. l))
-  no_step gap u noshape (S18 i) = not_unmet flow defs p s gap (instr.AssertEmpty i.q) i.at noshape u tt (empty_lacks i)
+  no_step gap u noshape (rule.S18, i) = not_unmet flow defs p s gap (instr.AssertEmpty i.q) i.at noshape u tt (empty_lacks i)
 
 pub unmet_has_no_step : BlocksAtOneNode → UnmetHasNoStep
 unmet_has_no_step law flow defs p s next gap u noshape step = no_step law flow defs p s next gap u noshape step

@@ -7,64 +7,21 @@ use Rattle.mc_flow.specs.declared.graph.Flow.{Flow}
 use Rattle.mc_state.specs.Known.{Test}
 use Rattle.mc_state.proofs.Numbered.{judged_unmet, given_or_unmet}
 use Rattle.mc_pure.specs.Laws.{BlocksAtOneNode}
+use Rattle.mc_state.specs.declared.line.InstrRule.{InstrRule}
+use Rattle.mc_state.specs.declared.line.InstrRule.TheVariants as rule
 use Rattle.mc_state.specs.State.{State}
 use Rattle.mc_rules_steps.specs.Next.{Next}
-use Rattle.mc_rules_steps.specs.Judges.{InstrRule, stepping}
-use Rattle.mc_rules_steps.specs.Judges as rule
-use Rattle.mc_rules_steps.specs.JudgedLaws.{IsStepBy, StepsHaveRules, AreGiven, StepsAreJudged, StepsAreDecided}
-use Rattle.mc_rules_steps.specs.Laws.{IsStep}
-use Rattle.mc_rules_steps.specs.Laws as step
+use Rattle.mc_rules_steps.specs.Judges.{stepping}
+use Rattle.mc_rules_steps.specs.JudgedLaws.{AreGiven, StepsAreJudged, StepsAreDecided}
+use Rattle.mc_rules_steps.specs.Steps.{StepIs}
 use Rattle.mc_rules_steps.specs.Sums.{Ranges}
 use Rattle.mc_rules_steps.proofs.JudgedMoves.{skip_from, skip_to, copy_from, copy_to, undef_from, undef_to, input_from, input_to, malloc_from, malloc_to, equal_from, equal_to, assume_from, assume_to, assert_from, assert_to, end_from, end_to, empty_from, empty_to}
 use Rattle.mc_rules_steps.proofs.JudgedBlocks.{load_from, load_to, store_from, store_to, null_from, null_to, free_from, free_to}
 use Rattle.mc_rules_steps.proofs.LowerLaws.{MadeLaws}
 use Rattle.mc_rules_steps.proofs.JudgedSums.{add_from, add_to, sub_from, sub_to, mul_from, mul_to, at_most_from, at_most_to}
 
-rule_of : (flow : Flow) (p : PointId) (s : State) (next : List Next) → IsStep flow p s next → (rule : InstrRule) × IsStepBy rule flow p s next
-rule_of flow p s next (step.S1 i) = (rule.S1, i)
-rule_of flow p s next (step.S2 i) = (rule.S2, i)
-rule_of flow p s next (step.S3 i) = (rule.S3, i)
-rule_of flow p s next (step.S4 i) = (rule.S4, i)
-rule_of flow p s next (step.S5 i) = (rule.S5, i)
-rule_of flow p s next (step.S6 i) = (rule.S6, i)
-rule_of flow p s next (step.S7 i) = (rule.S7, i)
-rule_of flow p s next (step.S8 i) = (rule.S8, i)
-rule_of flow p s next (step.S9 i) = (rule.S9, i)
-rule_of flow p s next (step.S10 i) = (rule.S10, i)
-rule_of flow p s next (step.S11 i) = (rule.S11, i)
-rule_of flow p s next (step.S12 i) = (rule.S12, i)
-rule_of flow p s next (step.S13 i) = (rule.S13, i)
-rule_of flow p s next (step.S14 i) = (rule.S14, i)
-rule_of flow p s next (step.S15 i) = (rule.S15, i)
-rule_of flow p s next (step.S16 i) = (rule.S16, i)
-rule_of flow p s next (step.S17 i) = (rule.S17, i)
-rule_of flow p s next (step.S18 i) = (rule.S18, i)
-
-step_of : (flow : Flow) (p : PointId) (s : State) (next : List Next) (r : InstrRule) → IsStepBy r flow p s next → IsStep flow p s next
-step_of flow p s next rule.S1 i = step.S1 i
-step_of flow p s next rule.S2 i = step.S2 i
-step_of flow p s next rule.S3 i = step.S3 i
-step_of flow p s next rule.S4 i = step.S4 i
-step_of flow p s next rule.S5 i = step.S5 i
-step_of flow p s next rule.S6 i = step.S6 i
-step_of flow p s next rule.S7 i = step.S7 i
-step_of flow p s next rule.S8 i = step.S8 i
-step_of flow p s next rule.S9 i = step.S9 i
-step_of flow p s next rule.S10 i = step.S10 i
-step_of flow p s next rule.S11 i = step.S11 i
-step_of flow p s next rule.S12 i = step.S12 i
-step_of flow p s next rule.S13 i = step.S13 i
-step_of flow p s next rule.S14 i = step.S14 i
-step_of flow p s next rule.S15 i = step.S15 i
-step_of flow p s next rule.S16 i = step.S16 i
-step_of flow p s next rule.S17 i = step.S17 i
-step_of flow p s next rule.S18 i = step.S18 i
-
-pub steps_have_rules : StepsHaveRules
-steps_have_rules flow p s next = (rule_of flow p s next, λ i. step_of flow p s next i.0 i.1)
-
 module _ (law : BlocksAtOneNode) (laws : MadeLaws) where
-  from : (know : Test) (range : Ranges) (flow : Flow) (defs : List Def) (r : InstrRule) (p : PointId) (s : State) (next : List Next) → AreGiven know range flow defs p s → stepping know range flow r p s ≡ Ok next → IsStepBy r flow p s next
+  from : (know : Test) (range : Ranges) (flow : Flow) (defs : List Def) (r : InstrRule) (p : PointId) (s : State) (next : List Next) → AreGiven know range flow defs p s → stepping know range flow r p s ≡ Ok next → StepIs r flow p s next
   from know range flow defs rule.S1 p s next g e = skip_from know flow p s g.tells next e
   from know range flow defs rule.S2 p s next g e = copy_from know flow p s g.tells next e
   from know range flow defs rule.S3 p s next g e = undef_from know flow p s g.tells next e
@@ -84,7 +41,7 @@ module _ (law : BlocksAtOneNode) (laws : MadeLaws) where
   from know range flow defs rule.S17 p s next g e = end_from know flow p s g.tells next e
   from know range flow defs rule.S18 p s next g e = empty_from know flow p s g.tells next e
 
-  to : (know : Test) (range : Ranges) (flow : Flow) (defs : List Def) (r : InstrRule) (p : PointId) (s : State) (next : List Next) → AreGiven know range flow defs p s → IsStepBy r flow p s next → stepping know range flow r p s ≡ Ok next
+  to : (know : Test) (range : Ranges) (flow : Flow) (defs : List Def) (r : InstrRule) (p : PointId) (s : State) (next : List Next) → AreGiven know range flow defs p s → StepIs r flow p s next → stepping know range flow r p s ≡ Ok next
   to know range flow defs rule.S1 p s next g i = skip_to know flow p s g.tells next i
   to know range flow defs rule.S2 p s next g i = copy_to know flow p s g.tells next i
   to know range flow defs rule.S3 p s next g i = undef_to know flow p s g.tells next i
@@ -112,5 +69,5 @@ module _ (law : BlocksAtOneNode) (laws : MadeLaws) where
       let tie = steps_are_judged know range flow defs r p s g in
       elim (given_or_unmet (stepping know range flow r p s)) [
         | inl given ↦ inl (given.0, (tie given.0).0 given.1)
-        | inr unmet ↦ inr (unmet.0, unmet.1, judged_unmet (stepping know range flow r p s) (IsStepBy r flow p s) tie unmet.0 unmet.1)
+        | inr unmet ↦ inr (unmet.0, unmet.1, judged_unmet (stepping know range flow r p s) (StepIs r flow p s) tie unmet.0 unmet.1)
       ]

@@ -26,8 +26,8 @@ use Rattle.mc_rules_steps.specs.Next.{Next}
 use Rattle.mc_rules_steps.specs.Instructions.{CopyParts, ResultParts, LoadParts, StoreParts, MallocParts, TestParts, AssumeParts, AssertParts, skip_of, copy_of, undef_of, input_of, add_of, sub_of, mul_of, load_of, store_of, malloc_of, free_of, test_eq_of, test_le_of, assume_of, assert_of, empty_of}
 use Rattle.mc_rules_steps.specs.JudgedLaws.{StepsAreOne}
 use Rattle.mc_rules_steps.specs.Fitting.{ends_of}
-use Rattle.mc_rules_steps.specs.Judges.{InstrRule, with_replaced, with_freed, with_shape, side_branch}
-use Rattle.mc_rules_steps.specs.Judges as rule
+use Rattle.mc_rules_steps.specs.Judges.{operand_nodes, with_replaced, with_freed, with_shape, side_branch}
+use Rattle.mc_state.specs.declared.line.InstrRule.TheVariants as rule
 use Rattle.mc_rules_steps.specs.Operands.{code_at, operand_node, with_operand, with_operands, HasBlock}
 use Rattle.mc_rules_steps.specs.Steps.{moved_to, sum_offsets, difference_offsets, no_offsets, Computes, S1Is, S2Is, S3Is, S4Is, S5Is, S6Is, S7Is, S8Is, S9Is, S10Is, S11Is, S12Is, S13Is, S14Is, S15Is, S16Is, S18Is}
 use Rattle.mc_rules_steps.specs.Sums.{Ends, Operation, sum, difference, product, with_result, at_most_atoms, above_atoms}
@@ -159,8 +159,8 @@ module _ (flow : Flow) (p : PointId) (s : State) (next other : List Next) where
       let g : AssumeParts = record { pred = i.pred; x = i.x; os = i.os; q = i.q } in
       let h : AssumeParts = record { pred = j.pred; x = j.x; os = j.os; q = j.q } in
       let same : g ≡ h = some_same (assume_of (code_at flow p)) g h (ap assume_of i.at) (ap assume_of j.at) in
-      let args : i.args ≡ j.args = some_same (rule.operand_nodes s i.os) i.args j.args (nodes_to i.os s i.args i.known)
-      (ap (λ (g : AssumeParts). rule.operand_nodes s g.os) same ∙ nodes_to j.os s j.args j.known) in
+      let args : i.args ≡ j.args = some_same (operand_nodes s i.os) i.args j.args (nodes_to i.os s i.args i.known)
+      (ap (λ (g : AssumeParts). operand_nodes s g.os) same ∙ nodes_to j.os s j.args j.known) in
       let made = λ (g : AssumeParts) (args : List NodeId) (t : State). moved_to g.q (with_var (with_shape g.pred args t) g.x (Some (next_node t))) ∷ [] in
       i.gives ∙ ap (made g i.args) i.operands ∙ ap₂ (λ (g : AssumeParts) (args : List NodeId). made g args (with_operands s g.os)) same args ∙ sym (j.gives ∙ ap (made h j.args) j.operands)
 
@@ -170,8 +170,8 @@ module _ (flow : Flow) (p : PointId) (s : State) (next other : List Next) where
       let h : AssertParts = record { pred = j.pred; o = j.o; os = j.os; q = j.q } in
       let same : g ≡ h = some_same (assert_of (code_at flow p)) g h (ap assert_of i.at) (ap assert_of j.at) in
       let node : i.n ≡ j.n = same_node (operand_node s i.o) i.n j.n i.known (ap (λ (g : AssertParts). operand_node s g.o) same ∙ j.known) in
-      let args : i.args ≡ j.args = some_same (rule.operand_nodes (with_operand s i.o) i.os) i.args j.args (nodes_to i.os (with_operand s i.o) i.args i.args_known)
-      (ap (λ (g : AssertParts). rule.operand_nodes (with_operand s g.o) g.os) same ∙ nodes_to j.os (with_operand s j.o) j.args j.args_known) in
+      let args : i.args ≡ j.args = some_same (operand_nodes (with_operand s i.o) i.os) i.args j.args (nodes_to i.os (with_operand s i.o) i.args i.args_known)
+      (ap (λ (g : AssertParts). operand_nodes (with_operand s g.o) g.os) same ∙ nodes_to j.os (with_operand s j.o) j.args j.args_known) in
       let made = λ (g : AssertParts) (n : NodeId) (args : List NodeId). side_branch p g.pred n args (with_operands (with_operand s g.o) g.os) ∷ moved_to g.q s ∷ [] in
       let left : next ≡ made g i.n i.args =
       i.gives ∙ ap (λ (n : Next). n ∷ moved_to i.q s ∷ []) (i.side_is ∙ ap (λ goal. record { point = p; goal = Some goal; state = with_operands (with_operand s i.o) i.os }) i.goal_is) in

@@ -66,7 +66,7 @@ module _ (defs : List Def) (w : Valuation) (a : NodeId) (address : ℕ) (leads :
       starts_differ es s.1 s.4 (both_free (region address) (s.0 address) (s.1 address) (s.2.joins address) free).1
 
 module _ (laws : StepLaws) (defs : List Def) where
-  -- nodes that are derived equal have one value
+  -- nodes that are entailed equal have one value
   pub equal_value : (v : Valuation) (values : List (Option ℤ)) (region : Region) (s : State) (a b : NodeId) → IsAtAddresses region → StandsBy defs v values region s → AreEqual s a b → v a.0 ≡ v b.0
   equal_value v values region s a b has st equal =
       let e : v a.0 ≡ v b.0 +ℤ pos 0 = laws.states.derived defs v values region s (Eq a b (pos 0)) has st equal in omega (arith, ints)

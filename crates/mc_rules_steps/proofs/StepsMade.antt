@@ -37,7 +37,8 @@ use Rattle.mc_state.specs.Fits.{AreNodes, HaveKinds, MayHaveKinds, EdgeFitsDefs,
 use Rattle.mc_rules_steps.specs.Next.{Next}
 use Rattle.mc_rules_steps.specs.JudgedLaws.{IsMadeFor, StepsAreWellMade}
 use Rattle.mc_rules_steps.specs.Judges.{with_replaced, with_shape, side_branch}
-use Rattle.mc_rules_steps.specs.Laws.{IsStep, S1, S2, S3, S4, S5, S6, S7, S8, S9, S10, S11, S12, S13, S14, S15, S16, S17, S18}
+use Rattle.mc_state.specs.declared.line.InstrRule.TheVariants as rule
+use Rattle.mc_rules_steps.specs.Laws.{IsStep}
 use Rattle.mc_rules_steps.specs.Operands.{with_operand, with_operands, HasBlock}
 use Rattle.mc_rules_steps.specs.Steps.{moved_to, is_single, stays_int, in_range, range_atoms, offset_atom, sum_offsets, difference_offsets, no_offsets, freed_atoms, le_atoms, gt_atoms, Computes}
 use Rattle.mc_rules_steps.specs.Steps.{S8Is, S9Is, S10Is, S12Is, S13Is, S14Is, S15Is, S16Is}
@@ -345,39 +346,39 @@ module _ (laws : MadeLaws) (flow : Flow) (defs : List Def) (valid : IsValid flow
       subst (AllByRecursion (IsMadeFor flow defs)) (sym i.gives) (subst (IsMadeFor flow defs) (sym is) made, ((m, tt), tt))
 
   each_made : (p : PointId) (s : State) (next : List Next) → Made s → IsStep flow p s next → AllByRecursion (IsMadeFor flow defs) next
-  each_made p s next m (S1 i) = one_made next i.q s i.gives m
-  each_made p s next m (S2 i) =
+  each_made p s next m (rule.S1, i) = one_made next i.q s i.gives m
+  each_made p s next m (rule.S2, i) =
       let fits = fits_at flow defs p (instr.Copy i.x i.from i.q) valid i.at in
       let operand = operand_made laws defs flow.vars structs s fits.0 i.from i.n m fits.2 i.known in
       one_made next i.q (with_var (with_operand s i.from) i.x (Some i.n)) i.gives (set_made laws defs flow.vars structs (with_operand s i.from) i.x fits.0 i.n operand.made fits.1 operand.has)
-  each_made p s next m (S3 i) = one_made next i.q (without_vars s i.xs) i.gives (forgotten_made laws defs flow.vars structs i.xs s m)
-  each_made p s next m (S4 i) =
+  each_made p s next m (rule.S3, i) = one_made next i.q (without_vars s i.xs) i.gives (forgotten_made laws defs flow.vars structs i.xs s m)
+  each_made p s next m (rule.S4, i) =
       let fits = fits_at flow defs p (instr.Input i.x i.q) valid i.at in
       let t = with_nodes s (Int ∷ []) in
       one_made next i.q (with_var t i.x (Some (next_node s))) i.gives
       (set_made laws defs flow.vars structs t i.x Int (next_node s) (nodes_made laws defs flow.vars structs s (Int ∷ []) m) fits (new_kind laws defs flow.vars structs s Int m))
-  each_made p s next m (S5 i) =
+  each_made p s next m (rule.S5, i) =
       let fits = fits_at flow defs p (instr.Add i.x i.o i.o' i.q) valid i.at in
       computes_made _ sum_offsets sum_well s next i.x i.o i.o' i.q i.computes fits.0 fits.1 fits.2 m
-  each_made p s next m (S6 i) =
+  each_made p s next m (rule.S6, i) =
       let fits = fits_at flow defs p (instr.Sub i.x i.o i.o' i.q) valid i.at in
       computes_made _ difference_offsets difference_well s next i.x i.o i.o' i.q i.computes fits.0 fits.1 fits.2 m
-  each_made p s next m (S7 i) =
+  each_made p s next m (rule.S7, i) =
       let fits = fits_at flow defs p (instr.Mul i.x i.o i.o' i.q) valid i.at in
       computes_made _ no_offsets no_well s next i.x i.o i.o' i.q i.computes fits.0 fits.1 fits.2 m
-  each_made p s next m (S8 i) = load_made p s next i m
-  each_made p s next m (S9 i) = store_made p s next i m
-  each_made p s next m (S10 i) = malloc_made p s next i m
-  each_made p s next m (S11 i) =
+  each_made p s next m (rule.S8, i) = load_made p s next i m
+  each_made p s next m (rule.S9, i) = store_made p s next i m
+  each_made p s next m (rule.S10, i) = malloc_made p s next i m
+  each_made p s next m (rule.S11, i) =
       let fits = fits_at flow defs p (instr.Free i.from i.q) valid i.at in
       one_made next i.q (with_operand s i.from) i.gives (operand_made laws defs flow.vars structs s Ptr i.from i.n m fits i.known).made
-  each_made p s next m (S12 i) = free_made p s next i m
-  each_made p s next m (S13 i) = equal_made p s next i m
-  each_made p s next m (S14 i) = at_most_made p s next i m
-  each_made p s next m (S15 i) = assume_made p s next i m
-  each_made p s next m (S16 i) = assert_made p s next i m
-  each_made p s next m (S17 i) = subst (AllByRecursion (IsMadeFor flow defs)) (sym i.gives) tt
-  each_made p s next m (S18 i) = one_made next i.q s i.gives m
+  each_made p s next m (rule.S12, i) = free_made p s next i m
+  each_made p s next m (rule.S13, i) = equal_made p s next i m
+  each_made p s next m (rule.S14, i) = at_most_made p s next i m
+  each_made p s next m (rule.S15, i) = assume_made p s next i m
+  each_made p s next m (rule.S16, i) = assert_made p s next i m
+  each_made p s next m (rule.S17, i) = subst (AllByRecursion (IsMadeFor flow defs)) (sym i.gives) tt
+  each_made p s next m (rule.S18, i) = one_made next i.q s i.gives m
 
 pub steps_are_well_made : MadeLaws → StepsAreWellMade
 steps_are_well_made laws flow defs p s next valid m step = each_made laws flow defs valid p s next m step

@@ -9,10 +9,11 @@ use Rattle.mc_base.specs.Nodes.{null}
 use Rattle.mc_state.specs.declared.graph.edge.Edge.TheVariants.{Seg}
 use Rattle.mc_state.specs.Known.{Test, Tells}
 use Rattle.mc_pure.specs.Examples.{node}
+use Rattle.mc_state.specs.declared.line.InstrRule.{InstrRule}
 use Rattle.mc_state.specs.State.{State}
 use Rattle.mc_rules_steps.specs.Next.{Next}
 use Rattle.mc_rules_steps.specs.Examples.{flow, one_cell, with_one}
-use Rattle.mc_rules_steps.specs.Judges.{InstrRule, stepping}
+use Rattle.mc_rules_steps.specs.Judges.{stepping}
 use Rattle.mc_rules_steps.specs.Sums.{Ends, Ranges, Operation, result_atoms, at_most_atoms, above_atoms}
 
 -- the numbers from one to another
@@ -23,11 +24,11 @@ from_to lo hi = record { lo = lo; hi = hi }
 abbrev pub only : ℤ → Ends
 only z = from_to z z
 
--- whatever tells what is derived, this premise of the rule is the first that is unmet
+-- whatever tells what is entailed, this premise of the rule is the first that is unmet
 abbrev pub IsFirstUnmet : InstrRule → PointId → State → ℕ → Type 0
 IsFirstUnmet rule p s k = (know : Test) (range : Ranges) → Tells know s → stepping know range flow rule p s ≡ Err k
 
--- whatever tells what is derived, the rule gives these successors
+-- whatever tells what is entailed, the rule gives these successors
 abbrev pub Gives : InstrRule → PointId → State → List Next → Type 0
 Gives rule p s next = (know : Test) (range : Ranges) → Tells know s → stepping know range flow rule p s ≡ Ok next
 

@@ -1,5 +1,5 @@
 -- What holds of judged rules of instructions.
-use Rattle.std.specs.Prelude.{◌≡◌, ◌↔◌, ◌⊎◌, ◌<◌, ℕ, ℤ, ◌≤ℤ◌, List, Option, Some, None, Err, length}
+use Rattle.std.specs.Prelude.{◌≡◌, ◌⊎◌, ◌<◌, ℕ, ℤ, ◌≤ℤ◌, List, Option, Some, None, Err, length}
 use Rattle.std.specs.List.{AllByRecursion}
 use Rattle.mc_base.specs.declared.ids.NodeId.{NodeId}
 use Rattle.mc_base.specs.declared.ids.PointId.{PointId}
@@ -18,46 +18,20 @@ use Rattle.mc_state.specs.Premises.{IsJudged}
 use Rattle.mc_pure.specs.Derived.{HasRange}
 use Rattle.mc_pure.specs.Pure.{Pure, HasKind}
 use Rattle.mc_state.specs.declared.goal.Goal.{Goal}
+use Rattle.mc_state.specs.declared.line.InstrRule.{InstrRule}
 use Rattle.mc_state.specs.State.{State}
 use Rattle.mc_state.specs.Facts.{IsFalse, Derives}
 use Rattle.mc_state.specs.Fits.{AreNodes, ArgsFit, IsBounded, FitsProgram, IsWellMade}
 use Rattle.mc_rules_steps.specs.Next.{Next}
 use Rattle.mc_rules_steps.specs.declared.gap.Gap.{Gap}
-use Rattle.mc_rules_steps.specs.Judges.{InstrRule, S1, S2, S3, S4, S5, S6, S7, S8, S9, S10, S11, S12, S13, S14, S15, S16, S17, S18, stepping}
+use Rattle.mc_rules_steps.specs.Judges.{stepping}
 use Rattle.mc_rules_steps.specs.Laws.{IsStep}
 use Rattle.mc_rules_steps.specs.Operands.{with_operands, HasBlock}
-use Rattle.mc_rules_steps.specs.Steps.{S1Is, S2Is, S3Is, S4Is, S5Is, S6Is, S7Is, S8Is, S9Is, S10Is, S11Is, S12Is, S13Is, S14Is, S15Is, S16Is, S17Is, S18Is}
+use Rattle.mc_rules_steps.specs.Steps.{StepIs}
 use Rattle.mc_rules_steps.specs.Sums.{Ends, Ranges, AreInts, HaveRanges, TellLeast}
 use Rattle.mc_rules_steps.specs.Unmet.{IsUnmet}
 
--- the instances of a rule
-abbrev pub IsStepBy : InstrRule → Flow → PointId → State → List Next → Type 0
-IsStepBy S1 = S1Is
-IsStepBy S2 = S2Is
-IsStepBy S3 = S3Is
-IsStepBy S4 = S4Is
-IsStepBy S5 = S5Is
-IsStepBy S6 = S6Is
-IsStepBy S7 = S7Is
-IsStepBy S8 = S8Is
-IsStepBy S9 = S9Is
-IsStepBy S10 = S10Is
-IsStepBy S11 = S11Is
-IsStepBy S12 = S12Is
-IsStepBy S13 = S13Is
-IsStepBy S14 = S14Is
-IsStepBy S15 = S15Is
-IsStepBy S16 = S16Is
-IsStepBy S17 = S17Is
-IsStepBy S18 = S18Is
-
--- an instance is one of some rule
-abbrev pub StepsHaveRules : Type 0
-StepsHaveRules =
-    (flow : Flow) (p : PointId) (s : State) (next : List Next)
-    → IsStep flow p s next ↔ ((rule : InstrRule) × IsStepBy rule flow p s next)
-
--- what a law of judged rules takes: a test that tells what is derived, right ranges, a valid flow graph and a well-made state
+-- what a law of judged rules takes: a test that tells what is entailed, right ranges, a valid flow graph and a well-made state
 pub record AreGiven (know : Test) (range : Ranges) (flow : Flow) (defs : List Def) (p : PointId) (s : State) : Type 0 where
   pub valid : IsValid flow defs
   pub made : IsWellMade defs flow.vars flow.structs.list s
@@ -68,21 +42,21 @@ pub record AreGiven (know : Test) (range : Ranges) (flow : Flow) (defs : List De
 abbrev pub StepsAreJudged : Type 0
 StepsAreJudged =
     (know : Test) (range : Ranges) (flow : Flow) (defs : List Def) (rule : InstrRule) (p : PointId) (s : State)
-    → AreGiven know range flow defs p s → IsJudged (stepping know range flow rule p s) (IsStepBy rule flow p s)
+    → AreGiven know range flow defs p s → IsJudged (stepping know range flow rule p s) (StepIs rule flow p s)
 
 -- a rule has one list of successors
 abbrev pub StepsAreOne : Type 0
 StepsAreOne =
     (flow : Flow) (defs : List Def) (rule : InstrRule) (p : PointId) (s : State) (next other : List Next)
-    → IsValid flow defs → IsStepBy rule flow p s next → IsStepBy rule flow p s other → next ≡ other
+    → IsValid flow defs → StepIs rule flow p s next → StepIs rule flow p s other → next ≡ other
 
 -- either it has an instance, or a premise is the first unmet one and it has none
 abbrev pub StepsAreDecided : Type 0
 StepsAreDecided =
     (know : Test) (range : Ranges) (flow : Flow) (defs : List Def) (rule : InstrRule) (p : PointId) (s : State)
     → AreGiven know range flow defs p s
-    → ((next : List Next) × IsStepBy rule flow p s next)
-    ⊎ ((k : ℕ) × (stepping know range flow rule p s ≡ Err k) × ((next : List Next) → IsStepBy rule flow p s next → ⊥))
+    → ((next : List Next) × StepIs rule flow p s next)
+    ⊎ ((k : ℕ) × (stepping know range flow rule p s ≡ Err k) × ((next : List Next) → StepIs rule flow p s next → ⊥))
 
 -- in a state that fits, a block of a struct has each field of the struct
 abbrev pub FieldsAreThere : Type 0
@@ -118,7 +92,7 @@ OperandsKeepSound =
     (vars : List VarInfo) (os : List Operand) (kinds : List Kind) (s : State)
     → IsBounded s → OperandsFit vars os kinds → IsFalse (with_operands s os) → IsFalse s
 
--- and of the nodes before nothing more is derived in it
+-- and of the nodes before nothing more is entailed in it
 abbrev pub OperandsTellNothing : Type 0
 OperandsTellNothing =
     (vars : List VarInfo) (os : List Operand) (kinds : List Kind) (s : State) (f : Atom)

@@ -19,33 +19,14 @@ use Rattle.mc_state.specs.Graph.Edges.{start_of, fields_of, has_shape, with_fiel
 use Rattle.mc_state.specs.Graph.Graph.{Edges, replaced, without, block_starts}
 use Rattle.mc_state.specs.Known.{Test, is_false, equal}
 use Rattle.mc_state.specs.Premises.{Judged, need, have}
+use Rattle.mc_state.specs.declared.line.InstrRule.{InstrRule}
+use Rattle.mc_state.specs.declared.line.InstrRule.TheVariants.{S1, S2, S3, S4, S5, S6, S7, S8, S9, S10, S11, S12, S13, S14, S15, S16, S17, S18}
 use Rattle.mc_state.specs.State.{State, var_node, with_var, without_vars, next_node, with_nodes, with_atoms, with_atom, with_edges, with_only_edges, with_block}
 use Rattle.mc_rules_steps.specs.Next.{Next}
 use Rattle.mc_rules_steps.specs.Instructions.{ResultParts, skip_of, copy_of, undef_of, input_of, add_of, sub_of, mul_of, load_of, store_of, malloc_of, free_of, test_eq_of, test_le_of, assume_of, assert_of, empty_of, is_end}
 use Rattle.mc_rules_steps.specs.Operands.{code_at, operand_node, with_operand, with_operands}
 use Rattle.mc_rules_steps.specs.Steps.{moved_to, freed_atoms}
 use Rattle.mc_rules_steps.specs.Sums.{Ranges, Operation, sum, difference, product, with_result, at_most_atoms, above_atoms}
-
--- a rule of instructions
-pub data InstrRule : Type 0 where
-  S1 : InstrRule
-  S2 : InstrRule
-  S3 : InstrRule
-  S4 : InstrRule
-  S5 : InstrRule
-  S6 : InstrRule
-  S7 : InstrRule
-  S8 : InstrRule
-  S9 : InstrRule
-  S10 : InstrRule
-  S11 : InstrRule
-  S12 : InstrRule
-  S13 : InstrRule
-  S14 : InstrRule
-  S15 : InstrRule
-  S16 : InstrRule
-  S17 : InstrRule
-  S18 : InstrRule
 
 -- ---- moves
 

@@ -13,6 +13,7 @@ use Rattle.mc_flow.specs.declared.graph.Flow.{Flow}
 use Rattle.mc_flow.specs.Steps.{Config, Result, Step}
 use Rattle.mc_flow.specs.Valid.{IsValid}
 use Rattle.mc_state.specs.declared.goal.Goal.{Goal}
+use Rattle.mc_state.specs.declared.line.InstrRule.{InstrRule}
 use Rattle.mc_state.specs.State.{State}
 use Rattle.mc_state.specs.Fits.{IsBounded}
 use Rattle.mc_state.specs.Stands.{StandsBy}
@@ -20,29 +21,12 @@ use Rattle.mc_state.specs.Rules.{GoalHolds, GoalIsThere}
 use Rattle.mc_rules_steps.specs.declared.gap.Gap.{Gap}
 use Rattle.mc_rules_steps.specs.declared.gap.Gap.TheVariants.{NoShape}
 use Rattle.mc_rules_steps.specs.Next.{Next}
-use Rattle.mc_rules_steps.specs.Steps.{S1Is, S2Is, S3Is, S4Is, S5Is, S6Is, S7Is, S8Is, S9Is, S10Is, S11Is, S12Is, S13Is, S14Is, S15Is, S16Is, S17Is, S18Is}
+use Rattle.mc_rules_steps.specs.Steps.{StepIs}
 use Rattle.mc_rules_steps.specs.Unmet.{IsUnmet}
 
--- the instances of the rules of instructions
-pub data IsStep (flow : Flow) (p : PointId) (s : State) (next : List Next) : Type 0 where
-  S1 : S1Is flow p s next → IsStep flow p s next
-  S2 : S2Is flow p s next → IsStep flow p s next
-  S3 : S3Is flow p s next → IsStep flow p s next
-  S4 : S4Is flow p s next → IsStep flow p s next
-  S5 : S5Is flow p s next → IsStep flow p s next
-  S6 : S6Is flow p s next → IsStep flow p s next
-  S7 : S7Is flow p s next → IsStep flow p s next
-  S8 : S8Is flow p s next → IsStep flow p s next
-  S9 : S9Is flow p s next → IsStep flow p s next
-  S10 : S10Is flow p s next → IsStep flow p s next
-  S11 : S11Is flow p s next → IsStep flow p s next
-  S12 : S12Is flow p s next → IsStep flow p s next
-  S13 : S13Is flow p s next → IsStep flow p s next
-  S14 : S14Is flow p s next → IsStep flow p s next
-  S15 : S15Is flow p s next → IsStep flow p s next
-  S16 : S16Is flow p s next → IsStep flow p s next
-  S17 : S17Is flow p s next → IsStep flow p s next
-  S18 : S18Is flow p s next → IsStep flow p s next
+-- an instance of one of the rules of instructions
+abbrev pub IsStep : Flow → PointId → State → List Next → Type 0
+IsStep flow p s next = (rule : InstrRule) × StepIs rule flow p s next
 
 -- the configuration is at the point, its blocks are at addresses, and it stands for the state
 pub record IsAt (defs : List Def) (v : Valuation) (c : Config) (p : PointId) (s : State) : Type 0 where

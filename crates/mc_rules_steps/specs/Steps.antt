@@ -23,6 +23,8 @@ use Rattle.mc_state.specs.Graph.Graph.{replaced, without, block_starts}
 use Rattle.mc_pure.specs.Pure.{address_atom}
 use Rattle.mc_pure.specs.Derived.{HasRange}
 use Rattle.mc_state.specs.declared.goal.Goal.{Goal}
+use Rattle.mc_state.specs.declared.line.InstrRule.{InstrRule}
+use Rattle.mc_state.specs.declared.line.InstrRule.TheVariants.{S1, S2, S3, S4, S5, S6, S7, S8, S9, S10, S11, S12, S13, S14, S15, S16, S17, S18}
 use Rattle.mc_state.specs.State.{State, pure_of, var_node, with_var, without_vars, next_node, with_nodes, with_atoms, with_atom, with_edges, with_only_edges, with_block}
 use Rattle.mc_state.specs.Facts.{IsFalse, AreEqual}
 use Rattle.mc_rules_steps.specs.Next.{Next}
@@ -333,3 +335,26 @@ pub record S18Is (flow : Flow) (p : PointId) (s : State) (next : List Next) : Ty
   pub whole : s.whole ≡ true
   pub none : s.graph.edges ≡ []
   pub gives : next ≡ moved_to q s ∷ []
+
+-- ---- all rules
+
+-- the instances of a rule
+abbrev pub StepIs : InstrRule → Flow → PointId → State → List Next → Type 0
+StepIs S1 = S1Is
+StepIs S2 = S2Is
+StepIs S3 = S3Is
+StepIs S4 = S4Is
+StepIs S5 = S5Is
+StepIs S6 = S6Is
+StepIs S7 = S7Is
+StepIs S8 = S8Is
+StepIs S9 = S9Is
+StepIs S10 = S10Is
+StepIs S11 = S11Is
+StepIs S12 = S12Is
+StepIs S13 = S13Is
+StepIs S14 = S14Is
+StepIs S15 = S15Is
+StepIs S16 = S16Is
+StepIs S17 = S17Is
+StepIs S18 = S18Is

@@ -9,7 +9,7 @@ ghost use Rattle.mc_state.specs.State.{with_var};
 ghost use Rattle.mc_rules_steps.specs.Examples as ex;
 ghost use Rattle.mc_rules_steps.specs.JudgedExamples.{Gives, GivesByRanges, IsFirstUnmet, without_x, without_y, from_to, only, greatest, least};
 ghost use Rattle.mc_rules_steps.specs.JudgedExamples.{known_result, known_at_most, known_above};
-ghost use Rattle.mc_rules_steps.specs.Judges as rule;
+ghost use Rattle.mc_state.specs.declared.line.InstrRule.TheVariants as rule;
 ghost use Rattle.mc_rules_steps.specs.JudgedExamples.{with_segment};
 ghost use Rattle.mc_rules_steps.specs.Steps.{moved_to};
 ghost use Rattle.mc_rules_steps.specs.Sums.{sum, difference, product};

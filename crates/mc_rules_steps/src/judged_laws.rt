@@ -1,12 +1,7 @@
 // What holds of judged rules of instructions. Each law is what a function with no body ensures.
-ghost use Rattle.mc_rules_steps.specs.JudgedLaws.{StepsHaveRules, StepsAreJudged, StepsAreOne, StepsAreDecided, FieldsAreThere};
+ghost use Rattle.mc_rules_steps.specs.JudgedLaws.{StepsAreJudged, StepsAreOne, StepsAreDecided, FieldsAreThere};
 ghost use Rattle.mc_rules_steps.specs.JudgedLaws.{CausesAreOne, LeastRangeIsOne, LeastRangeHasNumber, LeastRangeIsOfInts, StepsAreWellMade};
 ghost use Rattle.mc_rules_steps.specs.JudgedLaws.{OperandsKeepSound, OperandsTellNothing, RangesSuffice};
-
-/// An instance is one of some rule.
-pub fn steps_have_rules()
-    ensures { StepsHaveRules }
-{}
 
 /// Each rule is judged by its instances: it has one list of successors, or a first unmet premise and no instance.
 pub fn steps_are_judged()
@@ -44,7 +39,7 @@ pub fn steps_are_well_made()
     mc_state::nodes_are_there();
 }
 
-/// The nodes of operands make no state false, and nothing more is derived of the nodes before; so ranges that are the
+/// The nodes of operands make no state false, and nothing more is entailed of the nodes before; so ranges that are the
 /// least at states that are not false are the ones that instructions ask for.
 pub fn operands_tell_nothing()
     ensures sound { OperandsKeepSound }

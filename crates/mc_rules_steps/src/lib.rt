@@ -20,7 +20,7 @@ pub use judged_examples::{
 };
 pub use judged_laws::{
     causes_are_one, fields_are_there, least_ranges_are_known, operands_tell_nothing,
-    steps_are_judged, steps_are_well_made, steps_have_rules,
+    steps_are_judged, steps_are_well_made,
 };
 pub use laws::{steps_are_sound, steps_stay_bounded, unmet_has_no_step};
 pub use wrong_rules::{

@@ -1,7 +1,7 @@
 -- What has come to a value waits for no input.
 use Rattle.std.proofs.Common.{◌≡◌, ◌⊎◌, ℤ, List, [], ◌∷◌, Option, inl, inr, subst}
-use Rattle.mc_flow.specs.Heap.Choices.{Choice, input as choose_input, malloc as choose_malloc, shape as choose_shape}
-use Rattle.mc_semantics.specs.Values.{Evaluated, value_of, IsInput, AfterLeft}
+use Rattle.mc_flow.specs.Heap.Choices.{Choice}
+use Rattle.mc_semantics.specs.Values.{Evaluated, value_of, AfterLeft}
 use Rattle.mc_semantics.specs.Steps.{Arguments, AfterFirst}
 use Rattle.mc_semantics.specs.Resolved.Programs.{Expr, number, input, value, minus, times, plus, difference}
 use Rattle.mc_semantics.specs.Resolved.Steps.{EvaluateAll, Here}
@@ -9,15 +9,7 @@ use Rattle.mc_semantics.specs.Resolved.Values.{Evaluates}
 use Rattle.mc_semantics.specs.Waiting.Requests.{an_input, IsUnanswered}
 use Rattle.mc_run_values.specs.Values.Asking.{ArgumentsAsk, AsksBehind, ValueAsks}
 use Rattle.mc_run.proofs.Determined.{one_value}
-
-no_input : (choices left : List Choice) (one : Evaluated) → IsInput choices one → left ≡ choices → IsUnanswered an_input left → ⊥
-no_input choices left one is e w = (let P : List Choice → Type 0 = λ l. IsUnanswered an_input l in answers choices one is (subst P e w))
-  where
-    answers : (all : List Choice) (r : Evaluated) → IsInput all r → IsUnanswered an_input all → ⊥
-    answers [] r i u = i
-    answers (choose_input v ∷ rest) r i u = u i.0
-    answers (choose_malloc n ∷ rest) r i u = i
-    answers (choose_shape v blocks ∷ rest) r i u = i
+use Rattle.mc_semantics.proofs.WaitingLemmas.Values.{no_input}
 
 not_behind : (h : Here) (operation : ℤ → ℤ → ℤ) (b : Expr) (v : Option ℤ) (rest left : List Choice) (one r : Evaluated) → one ≡ value_of v rest
     → ((two : Evaluated) → Evaluates h.values h.heap b rest two → ⊥) → AfterLeft operation (λ l two. Evaluates h.values h.heap b l two) one r → ⊥

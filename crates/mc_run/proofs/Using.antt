@@ -42,7 +42,7 @@ pub value_faults : (structs : List StructInfo) (h : Here) (e : Expr) (place : Pl
     → IsStep structs (λ choices r. WithValue h e place choices go r) (λ choices request left. AsksInput h e choices request left) old (steps.Ends (ends.Fault kind place)) c new
 value_faults structs h e place go kind c old new i = (i.0, i.1, λ rest. (fault_of kind, i.2 rest, refl))
 
--- it asks in vain
+-- it asks without success
 pub value_refused : (structs : List StructInfo) (h : Here) (e : Expr) (place : Place) (go : Option ℤ → List Choice → Result → Type 0) (why : Refusal) (c : Config) (old new : List (List ℕ))
     → IsEvaluated structs h.values h.heap e old (one.Unanswered why) new
     → IsStep structs (λ choices r. WithValue h e place choices go r) (λ choices request left. AsksInput h e choices request left) old (steps.Unanswered why) c new
@@ -73,7 +73,7 @@ value_used structs h e place go v steps.Stuck c old new i f = (
 )
 
 -- ---- a step that goes on with a value and then takes choices
--- what asks behind a value
+-- what asks after a value
 abbrev pub AsksAt : (List Choice → Type 0) → Evaluated → Type 0
 AsksAt Asks (fault_of kind) = ⊥
 AsksAt Asks (value_of v rest) = Asks rest

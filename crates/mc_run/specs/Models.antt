@@ -48,7 +48,7 @@ here_of m = record { values = values_of m.work; heap = m.heap }
 abbrev pub program_of : code.Program → Program
 program_of p = resolved.program_of p.resolved.now p.defs.now
 
--- the run goes on behind a change, or faults at the place
+-- the run goes on after a change, or faults at the place
 abbrev pub settled_of : Result Unit FaultKind → Place → Stepped
 settled_of (Ok done) place = steps.Goes
 settled_of (Err kind) place = steps.Ends (ends.Fault kind place)

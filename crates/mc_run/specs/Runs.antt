@@ -15,7 +15,7 @@ use Rattle.mc_run.specs.declared.outcome.Outcome.TheVariants as outcomes
 use Rattle.mc_run.specs.Asking.{Asks}
 use Rattle.mc_run.specs.Steps.{HasNoStep}
 
--- the run takes these choices of the script, a line each, whatever choices stand behind them, and then this is so
+-- the run takes these choices of the script, a line each, whatever choices stand after them, and then this is so
 abbrev pub Taking : List StructInfo → List (List ℕ) → (List Choice → List (List ℕ) → Type 0) → Type 0
 Taking structs script IsSo =
     (used : List Choice) × (left : List (List ℕ)) × Takes structs script used left × IsSo used left

@@ -15,7 +15,7 @@ abbrev pub HasNoStep : {R : Type 0} → (R → Type 0) → (Request → List Cho
 HasNoStep {R} Comes Asks = ((r : R) → ¬ Comes r) × (¬ Waits Asks)
 
 -- a step that does this and asks for that, on the way from these lines to those: it leads to the configuration, ends the run,
--- asks in vain, or there is none
+-- asks without success, or there is none
 abbrev pub IsStep : List StructInfo → (Does : List Choice → Result → Type 0)
     → (Asks : List Choice → Request → List Choice → Type 0) → List (List ℕ) → Stepped → Config → List (List ℕ)
     → Type 0

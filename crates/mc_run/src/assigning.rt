@@ -23,7 +23,7 @@ use mc_run_values::tasks::Target;
 use mc_run_values::values::{Allocated, Evaluated, Operation, allocate, assign_behind, computed};
 use mc_semantics::resolved::{Expression, Initial, LeftValue, RightSide};
 
-/// The run goes on behind a change, or faults at the place.
+/// The run goes on after a change, or faults at the place.
 pub fn settled(change: Result<(), FaultKind>, place: Place) -> Stepped
     ensures { result ≡ settled_of change place }
 {

@@ -29,7 +29,7 @@ pub struct Machine<'a> {
     pub alloc: Global,
 }
 
-/// Lets go of its parts. What holds one calls this.
+/// Drops its parts. What holds one calls this.
 impl Drop for Machine<'_> {
     fn drop(self) {
         let Machine {
@@ -62,8 +62,7 @@ impl<'a> Machine<'a> {
             heap: &self.heap,
             structs: program.structs,
         };
-        let answer = self.evaluator.evaluate(&here, script, expression)?;
-        Ok(answer)
+        self.evaluator.evaluate(&here, script, expression)
     }
 
     /// What arguments come to, one after the other.
@@ -83,7 +82,6 @@ impl<'a> Machine<'a> {
             heap: &self.heap,
             structs: program.structs,
         };
-        let answer = self.evaluator.evaluate_all(&here, script, arguments)?;
-        Ok(answer)
+        self.evaluator.evaluate_all(&here, script, arguments)
     }
 }

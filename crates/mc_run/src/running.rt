@@ -113,9 +113,6 @@ pub fn run(
 {
     match program.resolved.functions.get(program.resolved.entry) {
         None => Ok(Outcome::Stuck),
-        Some(entry) => {
-            let outcome = run_from(alloc, program, script, fuel, entry)?;
-            Ok(outcome)
-        }
+        Some(entry) => run_from(alloc, program, script, fuel, entry),
     }
 }

@@ -12,20 +12,20 @@ use Rattle.mc_semantics.specs.Configs.{Values, Tasks}
 use Rattle.mc_semantics.specs.Moves.{moved, Arrives, here, there}
 use Rattle.mc_semantics.specs.Examples.{at, Comes, assigning, undefined_value, choosing, stopping_early, assuming, whiling, doing, turning, calling, reading_first}
 
-abbrev ahead : (Values → Tasks → Values × Tasks) → Values → Tasks → Option (Values × Tasks) → Values × Tasks
+abbrev pub ahead : (Values → Tasks → Values × Tasks) → Values → Tasks → Option (Values × Tasks) → Values × Tasks
 ahead go v ts None = (v, ts)
 ahead go v ts (Some next) = go next.0 next.1
 
 -- where so many moves lead at most
-abbrev led : ℕ → Tables → Values → Tasks → Values × Tasks
+abbrev pub led : ℕ → Tables → Values → Tasks → Values × Tasks
 led zero t v ts = (v, ts)
 led (suc n) t v ts = ahead (λ w us. led n t w us) v ts (moved t v ts)
 
-arrived_on : (t : Tables) (go : Values → Tasks → Values × Tasks) → ((v : Values) (ts : Tasks) → moved t (go v ts).0 (go v ts).1 ≡ None → Arrives t v ts (go v ts).0 (go v ts).1) → (v : Values) (ts : Tasks) (o : Option (Values × Tasks)) → moved t v ts ≡ o → moved t (ahead go v ts o).0 (ahead go v ts o).1 ≡ None → Arrives t v ts (ahead go v ts o).0 (ahead go v ts o).1
+pub arrived_on : (t : Tables) (go : Values → Tasks → Values × Tasks) → ((v : Values) (ts : Tasks) → moved t (go v ts).0 (go v ts).1 ≡ None → Arrives t v ts (go v ts).0 (go v ts).1) → (v : Values) (ts : Tasks) (o : Option (Values × Tasks)) → moved t v ts ≡ o → moved t (ahead go v ts o).0 (ahead go v ts o).1 ≡ None → Arrives t v ts (ahead go v ts o).0 (ahead go v ts o).1
 arrived_on t go far v ts None e none = here e
 arrived_on t go far v ts (Some next) e none = there e (far next.0 next.1 none)
 
-arrived : (n : ℕ) (t : Tables) (v : Values) (ts : Tasks) → moved t (led n t v ts).0 (led n t v ts).1 ≡ None → Arrives t v ts (led n t v ts).0 (led n t v ts).1
+pub arrived : (n : ℕ) (t : Tables) (v : Values) (ts : Tasks) → moved t (led n t v ts).0 (led n t v ts).1 ≡ None → Arrives t v ts (led n t v ts).0 (led n t v ts).1
 arrived zero t v ts none = here none
 arrived (suc n) t v ts none = arrived_on t (λ w us. led n t w us) (λ w us more. arrived n t w us more) v ts (moved t v ts) refl none
 

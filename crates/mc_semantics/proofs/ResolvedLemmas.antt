@@ -1,4 +1,3 @@
-pub mod Blocks
 pub mod Holding
 pub mod Knowing
 pub mod Computing

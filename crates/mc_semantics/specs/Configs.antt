@@ -34,7 +34,7 @@ with_variable values place value other = if is_place other place then value else
 abbrev pub without : List Variable → Values → Values
 without variables values place = if list_any (λ v. is_place v.place place) variables then None else values place
 
--- where the result of a call goes: nowhere, to one of these variables or a field behind it at the place of its statement,
+-- where the result of a call goes: nowhere, to one of these variables or a field after it at the place of its statement,
 -- or back as a result
 pub data Target : Type 0 where
   nowhere : Target
@@ -54,7 +54,7 @@ mutual
     test : List Variable → Cond → Branch → Branch → Task
     -- a condition of a `for` that is missing
     always : Tasks → Task
-    -- the end of a block, and the end of a loop, behind which `break` goes: the block's variables, and those of the
+    -- the end of a block, and the end of a loop, after which `break` goes: the block's variables, and those of the
     -- loop's head, are undefined from there on; the end of a turn, to which `continue` goes
     end_block : List Variable → Task
     end_loop : List Variable → Task

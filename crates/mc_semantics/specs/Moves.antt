@@ -28,12 +28,12 @@ condition_place (enclosed p c) = p
 condition_place (both c d) = condition_place c
 condition_place (either c d) = condition_place c
 
--- statements in a row, each in the scope behind those before it
+-- statements in a row, each in the scope after those before it
 abbrev pub in_a_row : Tables → Scope → Stmts → Tasks → Tasks
 in_a_row t s no_more rest = rest
 in_a_row t s (then a more) rest = task (perform s a) (in_a_row t (behind t s a) more rest)
 
--- the variables of a block behind these statements of it: those of its inner blocks and of the heads of loops are none
+-- the variables of a block after these statements of it: those of its inner blocks and of the heads of loops are none
 abbrev pub block_variables : Tables → Scope → Stmts → List Variable
 block_variables t s no_more = s.own
 block_variables t s (then a more) = block_variables t (behind t s a) more
@@ -69,7 +69,7 @@ abbrev pub tested : List Variable → Option Cond → Tasks → Tasks → Tasks
 tested variables None go rest = task (always go) done
 tested variables (Some c) go rest = task (test variables c (go_on go) (go_on rest)) done
 
--- behind the end of the innermost loop, or at the end of its turn: the variables of the blocks that are left are undefined
+-- after the end of the innermost loop, or at the end of its turn: the variables of the blocks that are left are undefined
 abbrev pub behind_loop : Values → Tasks → Option (Values × Tasks)
 behind_loop values done = None
 behind_loop values (task (end_loop vs) rest) = Some (without vs values, rest)

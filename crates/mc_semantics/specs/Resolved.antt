@@ -6,5 +6,5 @@ pub mod Steps
 pub mod Resolving
 pub mod Running
 pub mod Examples
-pub mod Weights
+pub mod Sizes
 pub mod Views

@@ -162,7 +162,7 @@ Passes h c target place rest choices r =
     × AfterArguments h (called_function h.tables c.function.text) target place rest all r
 
 -- ---- simple statements
--- a variable, one of these, or a field behind it gets what a right side comes to
+-- a variable, one of these, or a field after it gets what a right side comes to
 abbrev pub Assigns : Here → List Variable → Left → Right → Place → Tasks → List Choice → Result → Type 0
 Assigns h vs l (expression e) place rest choices r =
     WithValue h e place choices (λ v left other. other ≡ after rest place left (assigned (where_is h.tables vs h.values h.heap) l v)) r

@@ -55,7 +55,7 @@ read None = faulty Freed
 read (Some None) = faulty Uninit
 read (Some (Some v)) = found (Some v)
 
--- a field behind a pointer that may be undefined
+-- a field after a pointer that may be undefined
 abbrev pub loaded : Tables → Heap → VariableType → Name → Option ℤ → Found
 loaded t heap type field None = faulty Uninit
 loaded t heap type field (Some p) =
@@ -65,7 +65,7 @@ abbrev pub after_found : Found → (Option ℤ → Found) → Found
 after_found (faulty kind) go = faulty kind
 after_found (found v) go = go v
 
--- the fields one behind the other, from a value of this type on
+-- the fields one after the other, from a value of this type on
 abbrev pub behind_value : Tables → Heap → VariableType → Option ℤ → List Name → Found
 behind_value t heap type v [] = found v
 behind_value t heap type v (field ∷ fields) =
@@ -102,7 +102,7 @@ abbrev pub right_operand : (ℤ → ℤ → ℤ) → Option ℤ → Evaluated �
 right_operand operation v (fault_of kind) = fault_of kind
 right_operand operation v (value_of w choices) = operated operation v w choices
 
--- an operation behind its left value; what the right one comes to is given
+-- an operation after its left value; what the right one comes to is given
 abbrev pub AfterLeft : (ℤ → ℤ → ℤ) → (List Choice → Evaluated → Type 0) → Evaluated → Evaluated → Type 0
 AfterLeft operation right (fault_of kind) r = r ≡ fault_of kind
 AfterLeft operation right (value_of v choices) r = (two : Evaluated) × right choices two × (r ≡ right_operand operation v two)
@@ -134,7 +134,7 @@ written h at shape field v None = fault_in Freed
 written h at shape field v (Some block) =
     if is_some (block_field block shape field) then changed h.values (map.insert h.heap at (with_field block field v)) else fault_in Freed
 
--- a field behind a pointer is written; the value is taken first, then the pointer
+-- a field after a pointer is written; the value is taken first, then the pointer
 abbrev pub put : Here → VariableType → Name → Option ℤ → Option ℤ → Changed
 put h type field None v = fault_in Uninit
 put h type field (Some v) None = fault_in Uninit
@@ -152,7 +152,7 @@ abbrev pub behind_base : Found → (Option ℤ → Changed) → Changed
 behind_base (faulty kind) go = fault_in kind
 behind_base (found v) go = go v
 
--- the last field is written, behind what the fields before it lead to
+-- the last field is written, after what the fields before it lead to
 abbrev pub assigned_behind : Here → VariableType → Option ℤ → Name → List Name → Option ℤ → Changed
 assigned_behind h type base field [] v = put h type field v base
 assigned_behind h type base field (next ∷ fields) v =

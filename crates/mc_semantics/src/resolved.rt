@@ -1,4 +1,4 @@
-//! Programs with their names put away, which run as the programs with names do.
+//! Programs with their names resolved, which run as the programs with names do.
 
 mod laws;
 mod program;

@@ -1,7 +1,7 @@
 //! The first way to meet a goal, found by a search in depth with a stack of its own: no nesting of goals uses the
 //! machine's stack. What goals and marks are is said by a `Problem`.
 //!
-//! Lists of goals share an arena of cells. What is still to be tried is a stack of marks, each with the goals behind it
+//! Lists of goals share an arena of cells. What is still to be tried is a stack of marks, each with the goals after it
 //! and with how much of the log stands before it; going back is cutting the log.
 
 ghost use Rattle.std.specs.Prelude.{◌≡◌, ◌∷◌, ◌++◌, ◌-◌, ◌≤◌, ◌<◌, ℕ, List, Option, [], Some, None, true, false, IfOk, MatchOption, length, reverse, take, option_map, slice_get};
@@ -15,14 +15,14 @@ ghost use Rattle.mc_shape_search.specs.Tries.Times.{HasTimes, SetsPlace};
 use std::alloc::{AllocError, Global};
 use std::collections::BTreeMap;
 
-/// A goal in the arena and the list behind it: `next` is 0 for none, and else the number of a cell, from 1 on.
+/// A goal in the arena and the list after it: `next` is 0 for none, and else the number of a cell, from 1 on.
 #[derive(Drop)]
 pub struct Cell<G> {
     pub goal: G,
     pub next: usize,
 }
 
-/// A mark that is still to be tried: the goals behind it, and how much of the log stands before it.
+/// A mark that is still to be tried: the goals after it, and how much of the log stands before it.
 #[derive(Clone, Copy)]
 pub struct Pending<M> {
     pub mark: M,

@@ -40,7 +40,7 @@ at_front : (middle back : List ℤ) → map (value_of (middle ++ back)) (numbers
 at_front [] back = refl
 at_front (z ∷ middle) back = ap (λ ys. z ∷ ys) (shifted z (middle ++ back) 0 (length middle) ∙ at_front middle back)
 
--- the values of the numbers behind the front are those behind the front
+-- the values of the numbers after the front are those after the front
 behind : (front middle back : List ℤ) → map (value_of (front ++ (middle ++ back))) (numbers_from (length front) (length middle)) ≡ middle
 behind [] middle back = at_front middle back
 behind (z ∷ front) middle back = shifted z (front ++ (middle ++ back)) (length front) (length middle) ∙ behind front middle back

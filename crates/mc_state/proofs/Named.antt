@@ -1,5 +1,5 @@
 -- Edges that are named by ids.
-use Rattle.std.proofs.Common.{◌≡◌, ◌≢◌, ◌<◌, ◌≤◌, ℕ, suc, List, [], ◌∷◌, Bool, true, false, not, ◌&&◌, Option, Some, None, refl, ap, sym, subst, ◌∙◌, arith, eqb-true, eq-eqb}
+use Rattle.std.proofs.Common.{◌≡◌, ◌≢◌, ◌<◌, ℕ, suc, List, [], ◌∷◌, Bool, true, false, not, ◌&&◌, Option, Some, None, refl, ap, sym, subst, ◌∙◌, arith, eqb-true, eq-eqb}
 use Rattle.std.specs.Prelude.{◌==◌, if◌then◌else◌}
 use Rattle.mc_base.specs.declared.ids.EdgeId.{EdgeId}
 use Rattle.mc_state.specs.declared.graph.edge.Edge.{Edge}
@@ -9,19 +9,7 @@ use Rattle.mc_state.specs.Graph.Graph.{Edges, Picks, edge_with, without, IdsAsce
 use Rattle.mc_state.specs.Named.{others, are_there, is_among, are_distinct, is_apart, are_named, named_ids, Looked}
 use Rattle.mc_state.proofs.Tests.{and_both, and_yes, not_no}
 use Rattle.mc_state.specs.Told.{PicksAreNamed}
-
--- ids ascend still where one has gone
-ids_lower : (low bound : ℕ) (es : Edges) (high : ℕ) → low ≤ bound → IdsAscend bound es high → IdsAscend low es high
-ids_lower low bound [] high less a = tt
-ids_lower low bound (e ∷ es) high less a = let first = a.0 in (omega arith, a.1, a.2)
-
-ids_without : (low : ℕ) (es : Edges) (high : ℕ) (id : EdgeId) → IdsAscend low es high → IdsAscend low (without es id) high
-ids_without low [] high id a = tt
-ids_without low (e ∷ es) high id a = at (ids_without (suc e.0.0) es high id a.2) (e.0.0 == id.0)
-  where
-    at : IdsAscend (suc e.0.0) (without es id) high → (here : Bool) → IdsAscend low (if here then es else e ∷ without es id) high
-    at rest true = let first = a.0 in ids_lower low (suc e.0.0) es high (omega arith) a.2
-    at rest false = (a.0, a.1, rest)
+use Rattle.mc_state.proofs.Ids.{ids_without}
 
 -- an id that is not the one that went
 pub kept_other : (es : Edges) (id other : EdgeId) → (other.0 == id.0) ≡ false → edge_with (without es id) other ≡ edge_with es other

@@ -81,7 +81,7 @@ all_without_node P (k ∷ kinds) n a = at (all_without_node P kinds n a.1) (k.0.
     at rest true = rest
     at rest false = (a.0, rest)
 
--- a node behind the first one
+-- a node after the first one
 kind_behind : (k : NodeId × Kind) (kinds : Kinds) (n : NodeId) (kind : Kind) → k.0.0 ≢ n.0 → kind_of kinds n ≡ Some kind → kind_of (k ∷ kinds) n ≡ Some kind
 kind_behind k kinds n kind differ e = let other : (k.0.0 == n.0) ≡ false = ne_eqb k.0.0 n.0 differ in rw other e
 

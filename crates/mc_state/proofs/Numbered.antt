@@ -9,7 +9,7 @@ module _ {A : Type 0} where
   need_ok k true rest a e = (refl, e)
   need_ok k false rest a e = absurd (cc e)
 
-  -- what is refused is refused by a test that failed, or behind one that held
+  -- what is refused is refused by a test that failed, or after one that held
   pub need_err : (k : ℕ) (b : Bool) (rest : Judged A) (j : ℕ) → need k b rest ≡ Err j → ((b ≡ false) × (k ≡ j)) ⊎ ((b ≡ true) × (rest ≡ Err j))
   need_err k true rest j e = inr (refl, e)
   need_err k false rest j e = inl (refl, cc e)
@@ -37,7 +37,7 @@ module _ {W A : Type 0} where
   have_ok k None rest a e = absurd (cc e)
   have_ok k (Some w) rest a e = (w, refl, e)
 
-  -- what is refused lacks a witness, or is refused behind it
+  -- what is refused lacks a witness, or is refused after it
   pub have_err : (k : ℕ) (o : Option W) (rest : W → Judged A) (j : ℕ) → have k o rest ≡ Err j → ((o ≡ None) × (k ≡ j)) ⊎ ((w : W) × (o ≡ Some w) × (rest w ≡ Err j))
   have_err k None rest j e = inl (refl, cc e)
   have_err k (Some w) rest j e = inr (w, refl, e)

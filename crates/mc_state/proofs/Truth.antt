@@ -1,4 +1,4 @@
--- What is known of a state's nodes is true wherever a configuration stands for it, and so is what is derived.
+-- What is known of a state's nodes is true wherever a configuration stands for it, and so is what is entailed.
 use Rattle.std.proofs.Common.{◌≡◌, ◌≢◌, ℕ, zero, suc, List, [], ◌∷◌, Option, Some, None, slice_get, refl, sym, ap, ap₂, ◌∙◌, subst, arith, ℤ, pos, ◌+ℤ◌, ◌-ℤ◌}
 use Rattle.std.specs.Prelude.{IsSome}
 use Rattle.std.proofs.lemmas.Int.{ints}
@@ -25,7 +25,7 @@ use Rattle.mc_state.specs.Stands.{EdgeMeets, EdgesMeet, StandsBy}
 use Rattle.mc_state.specs.Laws.{DerivedIsTrue, NoneStandsForFalse, EqualNodesAreOne, LiesInItsKind}
 use Rattle.mc_state.proofs.Lists.{all_at}
 
--- what holds of derived atoms
+-- what holds of entailed atoms
 pub record PureLaws : Type 0 where
   pub derived : pure.DerivedIsTrue
   pub not_false : pure.TrueIsNotFalse

@@ -39,7 +39,7 @@ one_block here b c e f = cc
 pub no_block : (here : Option Block) (b : Block) → here ≡ Some b → here ≡ None → ⊥
 no_block here b e f = cc
 
--- a list is empty, or begins with a cell, behind which there is a list
+-- a list is empty, or begins with a cell, after which there is a list
 abbrev ListCase : ℤ → Region → Type 0
 ListCase value region =
     (value ≡ pos 0)

@@ -11,7 +11,7 @@ use Rattle.mc_pure.specs.Derived as pure
 use Rattle.mc_pure.specs.Whole.{kinds_without}
 use Rattle.mc_state.specs.State.{State, pure_of, renamed}
 
--- the atom is derived in the state
+-- the atom is entailed in the state
 abbrev pub Derives : State → Atom → Type 0
 Derives s f = pure.Derived (pure_of s) f
 
@@ -19,7 +19,7 @@ Derives s f = pure.Derived (pure_of s) f
 abbrev pub IsFalse : State → Type 0
 IsFalse s = pure.IsFalse (pure_of s)
 
--- the nodes are derived equal
+-- the nodes are entailed equal
 abbrev pub AreEqual : State → NodeId → NodeId → Type 0
 AreEqual s a b = pure.AreEqual (pure_of s) a b
 
@@ -27,7 +27,7 @@ AreEqual s a b = pure.AreEqual (pure_of s) a b
 abbrev pub AreAllEqual : State → List NodeId → List NodeId → Type 0
 AreAllEqual s as' bs = pure.AreAllEqual (pure_of s) as' bs
 
--- two states are the same: the same nodes of variables, kinds, edges with their ids and flag, and the same atoms are derived
+-- two states are the same: the same nodes of variables, kinds, edges with their ids and flag, and the same atoms are entailed
 pub record AreSame (s t : State) : Type 0 where
   pub env : s.env ≡ t.env
   pub kinds : s.kinds ≡ t.kinds

@@ -1,4 +1,4 @@
--- What is known of a state, as tests. Each takes `know`, the one test that depends on what is derived.
+-- What is known of a state, as tests. Each takes `know`, the one test that depends on what is entailed.
 use Rattle.std.specs.Prelude.{◌≡◌, ◌↔◌, ◌==◌, ◌&&◌, Bool, true, false, List, pos, Option, Some, None, if◌then◌else◌}
 use Rattle.std.specs.List.{list_all}
 use Rattle.mc_base.specs.declared.ids.NodeId.{NodeId}
@@ -16,11 +16,11 @@ use Rattle.mc_state.specs.Lists.{all_both}
 abbrev pub Test : Type 0
 Test = Atom → Bool
 
--- the test is true of what is derived in the state, and of nothing else
+-- the test is true of what is entailed in the state, and of nothing else
 abbrev pub Tells : Test → State → Type 0
 Tells know s = (f : Atom) → (know f ≡ true) ↔ Derives s f
 
--- the state is false: it derives that null is not itself
+-- the state is false: it entails that null is not itself
 abbrev pub is_false : Test → Bool
 is_false know = know (Ne null null (pos 0))
 

@@ -24,7 +24,7 @@ use Rattle.mc_pure.specs.Whole.{kinds_without}
 use Rattle.mc_state.specs.Fits.{NodesAscend, AreNodes, HaveKinds, IsBounded}
 use Rattle.mc_state.specs.Stands.{EdgeMeets, StandsBy, Stands, AgreeBelow, extended}
 
--- what is derived is true wherever a configuration stands for the state
+-- what is entailed is true wherever a configuration stands for the state
 abbrev pub DerivedIsTrue : Type 0
 DerivedIsTrue =
     (defs : List Def) (v : Valuation) (values : List (Option ℤ)) (region : Region) (s : State) (f : Atom)
@@ -36,7 +36,7 @@ NoneStandsForFalse =
     (defs : List Def) (values : List (Option ℤ)) (region : Region) (s : State)
     → IsAtAddresses region → Stands defs values region s → IsFalse s → ⊥
 
--- nodes that are derived equal have one value
+-- nodes that are entailed equal have one value
 abbrev pub EqualNodesAreOne : Type 0
 EqualNodesAreOne =
     (defs : List Def) (v : Valuation) (values : List (Option ℤ)) (region : Region) (s : State) (xs ys : List NodeId)

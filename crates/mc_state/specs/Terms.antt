@@ -28,7 +28,7 @@ plus t c = record { node = t.node; add = t.add +ℤ c }
 abbrev pub term_value : Valuation → Term → ℤ
 term_value v t = v t.node.0 +ℤ t.add
 
--- the terms are derived equal
+-- the terms are entailed equal
 abbrev pub AreEqualTerms : State → Term → Term → Type 0
 AreEqualTerms s t u = Derives s (atom.Eq t.node u.node (u.add -ℤ t.add))
 

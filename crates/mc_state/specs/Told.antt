@@ -20,7 +20,7 @@ PicksAreNamed =
     (es : Edges) (high : ℕ) (ids : List EdgeId) (picked : List Edge) (left : Edges)
     → IdsAscend 0 es high → Picks ids es picked left ↔ ((are_distinct ids ≡ true) × Looked es ids picked × (left ≡ others es ids))
 
--- a test that tells what is derived tells whether the state is false
+-- a test that tells what is entailed tells whether the state is false
 abbrev pub FalseIsTold : Type 0
 FalseIsTold = (know : Test) (s : State) → Tells know s → (is_false know ≡ true) ↔ IsFalse s
 

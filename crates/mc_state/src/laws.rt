@@ -10,7 +10,7 @@ ghost use Rattle.mc_state.specs.Laws.{EdgesStayBounded, FewerEdgesStayBounded, R
 ghost use Rattle.mc_state.specs.Laws.{PickedNodesAreThere, RenamedStaysBounded, MergedStaysBounded};
 ghost use Rattle.mc_state.specs.Laws.{DroppedStaysBounded};
 
-/// What is derived in a state is true wherever a configuration stands for it.
+/// What is entailed in a state is true wherever a configuration stands for it.
 pub fn derived_is_true()
     ensures derived { DerivedIsTrue }
     ensures not_false { NoneStandsForFalse }

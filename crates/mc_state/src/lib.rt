@@ -30,7 +30,7 @@ pub use laws::{
     nodes_are_there, nothing_is_allocated, numbers_stay_bounded, renaming_is_sound,
     variables_change,
 };
-pub use line::{Form, JoinStep, Side, Version};
+pub use line::{FoldInd, FoldSeg, Form, InstrRule, JoinStep, Side, Version};
 pub use positions::example_back_positions;
 pub use raw_state::{NodeKind, RawState};
 pub use rule::LogicFault;

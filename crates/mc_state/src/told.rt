@@ -6,7 +6,7 @@ pub fn picks_are_named()
     ensures { PicksAreNamed }
 {}
 
-/// A test that tells what is derived tells what rules ask of a state.
+/// A test that tells what is entailed tells what rules ask of a state.
 pub fn tests_tell()
     ensures is_false { FalseIsTold }
     ensures equal { EqualIsTold }

@@ -52,6 +52,5 @@ pub fn print(
     ensures { IfOk result (λ text. IsTextOf vars.now defs.now structs.now state.now text) }
 {
     let atoms = state.canon(alloc)?;
-    let text = text_with(alloc, state, vars, defs, structs, atoms.as_slice())?;
-    Ok(text)
+    text_with(alloc, state, vars, defs, structs, atoms.as_slice())
 }

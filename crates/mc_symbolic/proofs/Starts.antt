@@ -1,4 +1,4 @@
--- What is derived does not depend on the order of the nodes at which blocks start.
+-- What is entailed does not depend on the order of the nodes at which blocks start.
 use Rattle.std.proofs.Common.{◌≡◌, ◌≢◌, ◌↔◌, ◌<◌, ℕ, ℤ, zero, suc, inl, inr, List, [], ◌∷◌, Bool, true, false, IsTrue, Some, slice_get, refl, sym, ap, subst, ◌∙◌, arith}
 use Rattle.std.specs.Prelude.{◌==◌, if◌then◌else◌}
 use Rattle.std.proofs.lemmas.Bool.Decides.{nat_tests}

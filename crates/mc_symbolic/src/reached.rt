@@ -6,11 +6,9 @@ ghost use Rattle.mc_state.specs.Facts.{IsReached, IsFalse};
 ghost use Rattle.mc_symbolic.specs.Reached.{IsOpened, Opens, Searches};
 
 use crate::State;
-use mc_base::{NoMemory, NodeId};
+use mc_base::{NULL, NoMemory, NodeId};
 use mc_state::graph::Edge;
 use std::alloc::Global;
-
-const NULL: NodeId = NodeId(0);
 
 /// Adds the nodes of fields that are known.
 fn push_known(found: &mut Vec<NodeId>, fields: &[Option<NodeId>]) -> Result<(), NoMemory>

@@ -26,7 +26,7 @@ use std::marker::Model;
 
 /// What is known at a point of a run: the node of each variable, where it is known; the edges; the nodes with their
 /// kinds and the atoms that were written, closed; the least number that was no node yet; and whether the edges are all
-/// that is allocated. What is derived is asked without a search.
+/// that is allocated. What is entailed is asked without a search.
 pub struct State {
     env: Items<Option<NodeId>>,
     graph: Graph,
@@ -35,7 +35,7 @@ pub struct State {
     whole: bool,
 }
 
-/// Lets go of the state. What holds one calls this.
+/// Drops the state. What holds one calls this.
 impl Drop for State {
     fn drop(self) {
         let State {
@@ -193,7 +193,7 @@ impl State {
         self.pure.allows(atom)
     }
 
-    /// Whether the atom is derived.
+    /// Whether the atom is entailed.
     pub fn knows(&self, atom: &Atom) -> bool
         ensures told { (know : Test) → Tells know self.now → result ≡ know atom.now }
         ensures derived { IsTrue result ↔ Derives self.now atom.now }
@@ -212,7 +212,7 @@ impl State {
         self.pure.is_false()
     }
 
-    /// Whether the nodes are derived equal.
+    /// Whether the nodes are entailed equal.
     pub fn are_equal(&self, a: NodeId, b: NodeId) -> bool
         ensures told { (know : Test) → Tells know self.now → result ≡ equal know a b }
         ensures derived { IsTrue result ↔ AreEqual self.now a b }
@@ -220,7 +220,7 @@ impl State {
         self.knows(&Atom::Eq(a, b, 0))
     }
 
-    /// Whether the nodes of two lists are derived equal one by one, and the lists are of one length.
+    /// Whether the nodes of two lists are entailed equal one by one, and the lists are of one length.
     pub fn are_all_equal(&self, xs: &[NodeId], ys: &[NodeId]) -> bool
         ensures told { (know : Test) → Tells know self.now → result ≡ all_equal know xs.now ys.now }
         ensures derived { IsTrue result ↔ AreAllEqual self.now xs.now ys.now }
@@ -236,7 +236,7 @@ impl State {
         true
     }
 
-    /// The least range that is derived of a node, where what is known can be true.
+    /// The least range that is entailed of a node, where what is known can be true.
     pub fn range(&self, node: NodeId) -> Range
         requires there { IsNode self.now.kinds node }
         requires not_false { IsFalse self.now → ⊥ }

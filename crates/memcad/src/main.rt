@@ -1,11 +1,6 @@
 //! Reads the words of the command line, and ends with the status of what they ask for.
 #![tactic(auto)]
 
-#[cfg(test)]
-mod asking;
-#[cfg(test)]
-mod tests;
-
 use mc_app::{Status, memcad};
 use mc_outside::{HostFiles, HostSink};
 use std::process::ExitCode;

@@ -150,7 +150,7 @@ fn analyse_of<'w>(found: &ArgMatches<'w>) -> Option<Analyse<'w>>
     })
 }
 
-// The words behind `check`.
+// The words after `check`.
 fn asked_check<'w>(alloc: Global, words: &'w [String]) -> Result<Option<Request<'w>>, AllocError>
     requires { (rest : List (List ℕ)) × (map string_bytes words.now ≡ codes "check" ∷ rest) }
     ensures { IfOk result (λ r. MatchOption r ((a : Meant) → Asks (map string_bytes words.entry.now) a → ⊥)
@@ -166,7 +166,7 @@ fn asked_check<'w>(alloc: Global, words: &'w [String]) -> Result<Option<Request<
     }
 }
 
-// The words behind `run`.
+// The words after `run`.
 fn asked_run<'w>(alloc: Global, words: &'w [String]) -> Result<Option<Request<'w>>, AllocError>
     requires { (rest : List (List ℕ)) × (map string_bytes words.now ≡ codes "run" ∷ rest) }
     ensures { IfOk result (λ r. MatchOption r ((a : Meant) → Asks (map string_bytes words.entry.now) a → ⊥)
@@ -182,7 +182,7 @@ fn asked_run<'w>(alloc: Global, words: &'w [String]) -> Result<Option<Request<'w
     }
 }
 
-// The words behind `analyse`.
+// The words after `analyse`.
 fn asked_analyse<'w>(alloc: Global, words: &'w [String]) -> Result<Option<Request<'w>>, AllocError>
     requires { (rest : List (List ℕ)) × (map string_bytes words.now ≡ codes "analyse" ∷ rest) }
     ensures { IfOk result (λ r. MatchOption r ((a : Meant) → Asks (map string_bytes words.entry.now) a → ⊥)

@@ -1,20 +1,11 @@
 -- Edges that ids name, and tests that tell the same.
-use Rattle.std.proofs.Common.{◌≡◌, ◌↔◌, Bool, true, false, None, Some, List, [], ◌∷◌, ◌++◌, refl, subst}
+use Rattle.std.proofs.Common.{◌≡◌, ◌↔◌, Bool, true, false, None, Some, List, [], ◌∷◌, ◌++◌, refl}
 use Rattle.std.specs.Prelude.{◌==◌, if◌then◌else◌}
 use Rattle.std.specs.List.{AllByRecursion}
 use Rattle.mc_base.specs.declared.ids.EdgeId.{EdgeId}
 use Rattle.mc_state.specs.declared.graph.edge.Edge.{Edge}
 use Rattle.mc_state.specs.Graph.Graph.{Edges, edge_with}
 use Rattle.mc_state.specs.Named.{other_edge}
-
--- what holds of every edge holds of the one with an id
-pub edge_fits : (P : Edge → Type 0) (es : Edges) (id : EdgeId) (e : Edge) → edge_with es id ≡ Some e → AllByRecursion (λ x. P x.1) es → P e
-edge_fits P [] id e there all = absurd (cc there)
-edge_fits P (x ∷ es) id e there all = at (λ is. edge_fits P es id e is all.1) (x.0.0 == id.0) there
-  where
-    at : (edge_with es id ≡ Some e → P e) → (here : Bool) → (if here then Some x.1 else edge_with es id) ≡ Some e → P e
-    at rest true is = let same : x.1 ≡ e = cc is in subst P same all.0
-    at rest false is = rest is
 
 -- another edge is the one with its id
 pub other_there : (es : Edges) (first second : EdgeId) (e : Edge) → other_edge es first second ≡ Some e → edge_with es second ≡ Some e

@@ -1,4 +1,4 @@
--- What is known of a state's nodes says what the state derives.
+-- What is known of a state's nodes says what the state entails.
 use Rattle.std.proofs.Common.{◌↔◌, inl, inr}
 use Rattle.mc_base.specs.declared.plain.Atom.{Atom}
 use Rattle.mc_pure.specs.Pure.{Pure}
@@ -7,7 +7,7 @@ use Rattle.mc_pure.specs.Derived.{IsFalse as IsFalsePure}
 use Rattle.mc_state.specs.Facts.{Derives, IsFalse}
 use Rattle.mc_state.specs.State.{State, pure_of}
 
--- where the same follows, the same is derived
+-- where the same follows, the same is entailed
 pub same_derived : (p : Pure) (s : State) → ((f : Atom) → Follows p f ↔ Follows (pure_of s) f) → (IsFalsePure p ↔ IsFalse s) → (f : Atom) → Derived p f ↔ Derives s f
 same_derived p s follows wrong f = (
   λ h. elim h [

@@ -6,7 +6,7 @@ use Rattle.mc_state.specs.Lists.{all_both}
 use Rattle.mc_state.proofs.ListLemmas.{all_both_yes}
 
 module _ {X : Type 0} where
-  -- all of a list is taken, also behind a place
+  -- all of a list is taken, also after a place
   whole : (xs : List X) → take (length xs) xs ≡ xs
   whole [] = refl
   whole (x ∷ xs) = ap (λ l. x ∷ l) (whole xs)
@@ -42,7 +42,7 @@ module _ {A : Type 0} (test : A → Bool) (xs : List A) (i : ℕ) (d : A) where
   not_all m failed = ap (list_all test) (drop_more xs i d m) ∙ ap (λ b. b && list_all test (drop (i + 1) xs)) (sym failed)
 
 module _ {A B : Type 0} (test : A → B → Bool) (xs : List A) (ys : List B) (i : ℕ) where
-  -- a list without an item is compared in two parts, that before the item and that behind it
+  -- a list without an item is compared in two parts, that before the item and that after it
   others_split : i < length xs → i ≤ length ys → all_both test (remove xs i) ys ≡ (all_both test (take i xs) (take i ys) && all_both test (drop (i + 1) xs) (drop i ys))
   others_split inside fits =
       let long : length (take i xs) ≡ i = length-take i xs ∙ omega arith in

@@ -12,7 +12,8 @@ use Rattle.mc_pure.specs.Nodes.{RiseFrom, with_kind}
 use Rattle.mc_pure.specs.Known.{with_node}
 use Rattle.mc_pure.specs.Whole.{kinds_without}
 use Rattle.mc_apply_fold.specs.Forget.Left.{only_kinds, first_kinds}
-use Rattle.mc_apply_fold.proofs.ForgetLemmas.Lists.{number, yes, no, is_yes}
+use Rattle.mc_apply_fold.proofs.ForgetLemmas.Lists.{is_yes}
+use Rattle.mc_pure.proofs.Changing.{no, number, yes}
 
 some_none : {x : Kind} → Some x ≡ None → ⊥
 some_none e = cc

@@ -27,8 +27,10 @@ use Rattle.mc_rules_logic.specs.Fold.Changed.{Forgets, ForgetsNode, IsListWithou
 use Rattle.mc_rules_logic.specs.Fold.Laws.{ForgetIsDetermined}
 use Rattle.mc_rules_logic.specs.Fold.MadeLaws.{ForgetStaysMade}
 use Rattle.mc_apply_fold.specs.Forget.Left.{IsMade, only_kinds, with_atoms, with_starts}
-use Rattle.mc_apply_fold.proofs.ForgetLemmas.Lists.{number, yes, no, among_cases, among_here, among_none, same_node, all_places}
+use Rattle.mc_apply_fold.proofs.ForgetLemmas.Lists.{among_here, all_places}
 use Rattle.mc_apply_fold.proofs.ForgetLemmas.Leaving.{kept_kind}
+use Rattle.mc_pure.proofs.Changing.{no, number, same_node, yes}
+use Rattle.mc_rules_logic.proofs.FoldLemmas.Ordered.{among_cases, among_none}
 
 -- ---- atoms that leave a node out
 

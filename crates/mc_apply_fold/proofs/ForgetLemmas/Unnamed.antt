@@ -9,7 +9,9 @@ use Rattle.mc_state.specs.Graph.Graph.{Edges}
 use Rattle.mc_state.specs.State.{State}
 use Rattle.mc_state.specs.Facts.{IsUnnamed}
 use Rattle.mc_rules_logic.specs.Fold.ChangeJudges.{is_listed, is_unnamed}
-use Rattle.mc_apply_fold.proofs.ForgetLemmas.Lists.{same_node, number, yes, is_yes, among_cases, among_here, among_there, among_none}
+use Rattle.mc_apply_fold.proofs.ForgetLemmas.Lists.{is_yes, among_here}
+use Rattle.mc_pure.proofs.Changing.{number, same_node, yes}
+use Rattle.mc_rules_logic.proofs.FoldLemmas.Ordered.{among_cases, among_none, among_there}
 
 both_of : (a b : Bool) → (a && b) ≡ true → (a ≡ true) × (b ≡ true)
 both_of true b e = (refl, e)

@@ -60,7 +60,7 @@ fn term_of(rule: &SpareNode) -> Term
     }
 }
 
-/// Whether a rule's node, the number more, is derived to lie in the range of the rule's kind. No sum is made in 64 bits.
+/// Whether a rule's node, the number more, is entailed to lie in the range of the rule's kind. No sum is made in 64 bits.
 fn lies_in(s: &State, rule: &SpareNode) -> bool
     ensures told { (know : Test) → Tells know s.now → result ≡ lies_in know rule.now.kind rule.now.node rule.now.add }
     ensures derived { IsTrue result ↔ LiesIn (pure_of s.now) rule.now.kind rule.now.node rule.now.add }

@@ -67,7 +67,7 @@ pub fn are_calls(s: &State, names: &[NodeId], calls: &[Call], ids: &[EdgeId]) ->
     true
 }
 
-/// The calls behind a place.
+/// The calls after a place.
 fn behind(calls: &[Call], place: usize) -> &[Call]
     requires { place < length calls.now }
     ensures { result.now ≡ drop (place + 1) calls.now }

@@ -2,6 +2,7 @@
 ghost use Rattle.std.specs.Prelude.{◌≡◌, ◌<◌, ◌∷◌, [], IfOk, IsSome, MatchResult, OnOk, Some, drop, length, map, remove, slice_get, take};
 ghost use Rattle.std.specs.Option.{option_copied};
 ghost use Rattle.mc_flow.specs.Defs.Instances.{node_of};
+ghost use Rattle.mc_rules_logic.specs.Fold.Folded.{as_ind};
 ghost use Rattle.mc_rules_logic.specs.Fold.Judges.{folding_ind, folding_seg, matching, nothing, own_call, with_fold};
 ghost use Rattle.mc_state.specs.Graph.Edges.{nodes_of};
 ghost use Rattle.mc_state.specs.declared.graph.edge.Edge.TheVariants.{Ind, Seg};
@@ -20,19 +21,11 @@ use crate::fold::named::are_named;
 use crate::fold::names::{knows_rule, node_of};
 use mc_base::{Args, EdgeId, NoMemory, NodeId, PredId};
 use mc_flow::defs::{Call, Def, Defs};
-use mc_state::LogicFault;
 use mc_state::graph::Edge;
+use mc_state::{FoldInd, FoldSeg, LogicFault};
 use mc_symbolic::State;
 use mc_symbolic::changes::take_edges;
 use std::alloc::Global;
-
-/// A rule of a predicate, by its number, and nodes for its names.
-#[derive(Clone, Copy)]
-pub struct NamedRule<'a> {
-    pub pred: PredId,
-    pub rule: u64,
-    pub names: &'a [NodeId],
-}
 
 /// The nodes of the parameters.
 fn arguments(alloc: Global, names: &[NodeId], count: usize) -> Result<Args<NodeId>, NoMemory>
@@ -100,63 +93,52 @@ fn seg(
 }
 
 /// The premises of L3: the predicate's definition, or the number of the first premise that is unmet.
-fn match_ind<'a>(
-    s: &State,
-    defs: &'a Defs,
-    named: &NamedRule<'_>,
-    block: Option<EdgeId>,
-    ids: &[EdgeId],
-) -> Result<&'a Def, u8>
-    ensures told { (know : Test) → Tells know s.now → let judged = matching know defs.now named.now.pred named.now.rule
-        named.now.names.now block ids.now nothing (λ by. by.calls) s.now in
+fn match_ind<'a>(s: &State, defs: &'a Defs, fold: &FoldInd) -> Result<&'a Def, u8>
+    ensures told { (know : Test) → Tells know s.now
+        → let judged = matching know defs.now fold.now nothing (λ by. by.calls) s.now in
         MatchResult result (λ def. judged ≡ Ok (def.now, tt)) (λ k. judged ≡ Err k) }
-    ensures there { IfOk result (λ def. AreNodes s.now.kinds named.now.names.now) }
-    ensures more { IfOk result (λ def. length def.now.params < length named.now.names.now) }
+    ensures there { IfOk result (λ def. AreNodes s.now.kinds fold.now.names) }
+    ensures more { IfOk result (λ def. length def.now.params < length fold.now.names) }
 {
+    let names = fold.names.as_slice();
+    let ids = fold.edges.as_slice();
     if s.is_false() {
         return Err(2);
     }
-    if !are_named(s, block, ids) {
+    if !are_named(s, fold.block, ids) {
         return Err(3);
     }
-    let Some(def) = defs.as_slice().get(named.pred.0 as usize) else {
+    let Some(def) = defs.as_slice().get(fold.pred.0 as usize) else {
         return Err(4);
     };
-    let Some(by) = def.rules.as_slice().get(named.rule as usize) else {
+    let Some(by) = def.rules.as_slice().get(fold.rule as usize) else {
         return Err(4);
     };
-    if !fits_rule(s, def, by, named.names, block, ids) {
+    if !fits_rule(s, def, by, names, fold.block, ids) {
         return Err(4);
     }
-    if !body_fits(s, named.names, by, block) {
+    if !body_fits(s, names, by, fold.block) {
         return Err(5);
     }
-    if !are_calls(s, named.names, by.calls.as_slice(), ids) {
+    if !are_calls(s, names, by.calls.as_slice(), ids) {
         return Err(6);
     }
-    if !knows_rule(s, named.names, by) {
+    if !knows_rule(s, names, by) {
         return Err(7);
     }
     Ok(def)
 }
 
 /// The premises of L3, and the Ind.
-fn folded_ind(
-    alloc: Global,
-    s: &State,
-    defs: &Defs,
-    named: &NamedRule<'_>,
-    block: Option<EdgeId>,
-    ids: &[EdgeId],
-) -> Result<Edge, LogicFault>
+fn folded_ind(alloc: Global, s: &State, defs: &Defs, fold: &FoldInd) -> Result<Edge, LogicFault>
     ensures told { (know : Test) → Tells know s.now → AnswersBy
-        (λ e. with_fold s.now (named_ids block ids.now) e ∷ []) (folding_ind know defs.now named.now.pred
-        named.now.rule named.now.names.now block ids.now s.now) result }
+        (λ e. with_fold s.now (named_ids fold.now.block fold.now.edges) e ∷ [])
+        (folding_ind know defs.now fold.now s.now) result }
     ensures there { IfOk result (λ e. AreNodes s.now.kinds (nodes_of e)) }
 {
-    match match_ind(s, defs, named, block, ids) {
+    match match_ind(s, defs, fold) {
         Err(k) => Err(LogicFault::Premise(k)),
-        Ok(def) => match ind(alloc, named.names, def.params.len(), named.pred) {
+        Ok(def) => match ind(alloc, fold.names.as_slice(), def.params.len(), fold.pred) {
             Ok(edge) => Ok(edge),
             Err(_) => Err(LogicFault::NoMemory),
         },
@@ -178,73 +160,68 @@ fn own_call(calls: &[Call], place: u64, pred: PredId) -> Option<&Call>
 
 /// The premises of L4: the predicate's definition and the call that is left out, or the number of the first premise
 /// that is unmet.
-fn match_seg<'a>(
-    s: &State,
-    defs: &'a Defs,
-    named: &NamedRule<'_>,
-    block: EdgeId,
-    ids: &[EdgeId],
-    place: u64,
-) -> Result<(&'a Def, &'a Call), u8>
-    ensures told { (know : Test) → Tells know s.now → let judged = matching know defs.now named.now.pred named.now.rule
-        named.now.names.now (Some block) ids.now (λ by. own_call named.now.pred (slice_get by.calls place))
-        (λ by. remove by.calls place) s.now in
+fn match_seg<'a>(s: &State, defs: &'a Defs, fold: &FoldSeg) -> Result<(&'a Def, &'a Call), u8>
+    ensures told { (know : Test) → Tells know s.now → let judged = matching know defs.now (as_ind fold.now)
+        (λ by. own_call fold.now.pred (slice_get by.calls fold.now.call)) (λ by. remove by.calls fold.now.call) s.now in
         MatchResult result (λ m. judged ≡ Ok (m.0.now, m.1.now)) (λ k. judged ≡ Err k) }
-    ensures there { IfOk result (λ m. AreNodes s.now.kinds named.now.names.now) }
-    ensures more { IfOk result (λ m. length m.0.now.params < length named.now.names.now) }
+    ensures there { IfOk result (λ m. AreNodes s.now.kinds fold.now.names) }
+    ensures more { IfOk result (λ m. length m.0.now.params < length fold.now.names) }
 {
-    let some = Some(block);
+    let some = Some(fold.block);
+    let names = fold.names.as_slice();
+    let ids = fold.edges.as_slice();
+    let place = fold.call as usize;
     if s.is_false() {
         return Err(2);
     }
     if !are_named(s, some, ids) {
         return Err(3);
     }
-    let Some(def) = defs.as_slice().get(named.pred.0 as usize) else {
+    let Some(def) = defs.as_slice().get(fold.pred.0 as usize) else {
         return Err(4);
     };
-    let Some(by) = def.rules.as_slice().get(named.rule as usize) else {
+    let Some(by) = def.rules.as_slice().get(fold.rule as usize) else {
         return Err(4);
     };
-    let Some(call) = own_call(by.calls.as_slice(), place, named.pred) else {
+    let Some(call) = own_call(by.calls.as_slice(), fold.call, fold.pred) else {
         return Err(4);
     };
-    if !fits_without(s, def, by, place as usize, named.names, some, ids) {
+    if !fits_without(s, def, by, place, names, some, ids) {
         return Err(4);
     }
-    if !body_fits(s, named.names, by, some) {
+    if !body_fits(s, names, by, some) {
         return Err(5);
     }
-    if !are_other_calls(s, named.names, by.calls.as_slice(), place as usize, ids) {
+    if !are_other_calls(s, names, by.calls.as_slice(), place, ids) {
         return Err(6);
     }
-    if !knows_rule(s, named.names, by) {
+    if !knows_rule(s, names, by) {
         return Err(7);
     }
     Ok((def, call))
 }
 
 /// The premises of L4, and the Seg.
-fn folded_seg(
-    alloc: Global,
-    s: &State,
-    defs: &Defs,
-    named: &NamedRule<'_>,
-    block: EdgeId,
-    ids: &[EdgeId],
-    place: u64,
-) -> Result<Edge, LogicFault>
+fn folded_seg(alloc: Global, s: &State, defs: &Defs, fold: &FoldSeg) -> Result<Edge, LogicFault>
     ensures told { (know : Test) → Tells know s.now → AnswersBy
-        (λ e. with_fold s.now (named_ids (Some block) ids.now) e ∷ []) (folding_seg know defs.now named.now.pred
-        named.now.rule named.now.names.now block ids.now place s.now) result }
+        (λ e. with_fold s.now (named_ids (Some fold.now.block) fold.now.edges) e ∷ [])
+        (folding_seg know defs.now fold.now s.now) result }
     ensures there { IfOk result (λ e. AreNodes s.now.kinds (nodes_of e)) }
 {
-    match match_seg(s, defs, named, block, ids, place) {
+    match match_seg(s, defs, fold) {
         Err(k) => Err(LogicFault::Premise(k)),
-        Ok((def, call)) => match seg(alloc, named.names, def.params.len(), named.pred, call) {
-            Ok(edge) => Ok(edge),
-            Err(_) => Err(LogicFault::NoMemory),
-        },
+        Ok((def, call)) => {
+            match seg(
+                alloc,
+                fold.names.as_slice(),
+                def.params.len(),
+                fold.pred,
+                call,
+            ) {
+                Ok(edge) => Ok(edge),
+                Err(_) => Err(LogicFault::NoMemory),
+            }
+        }
     }
 }
 
@@ -255,13 +232,9 @@ fn take_named(s: &mut State, block: Option<EdgeId>, ids: &[EdgeId]) -> Result<()
     match block {
         Some(id) => {
             s.take_edge(id)?;
-            take_edges(s, ids)?;
-            Ok(())
+            take_edges(s, ids)
         }
-        None => {
-            take_edges(s, ids)?;
-            Ok(())
-        }
+        None => take_edges(s, ids),
     }
 }
 
@@ -289,15 +262,13 @@ pub fn fold_ind(
     alloc: Global,
     s: &State,
     defs: &Defs,
-    named: &NamedRule<'_>,
-    block: Option<EdgeId>,
-    ids: &[EdgeId],
+    fold: &FoldInd,
 ) -> Result<Vec<State>, LogicFault>
-    ensures { (know : Test) → Tells know s.now → AnswersBy (λ v. v.items) (folding_ind know defs.now
-        named.now.pred named.now.rule named.now.names.now block ids.now s.now) result }
+    ensures { (know : Test) → Tells know s.now → AnswersBy (λ v. v.items)
+        (folding_ind know defs.now fold.now s.now) result }
 {
-    let edge = folded_ind(alloc, s, defs, named, block, ids)?;
-    match with_folded(alloc, s, block, ids, edge) {
+    let edge = folded_ind(alloc, s, defs, fold)?;
+    match with_folded(alloc, s, fold.block, fold.edges.as_slice(), edge) {
         Ok(next) => Ok(next),
         Err(_) => Err(LogicFault::NoMemory),
     }
@@ -309,16 +280,13 @@ pub fn fold_seg(
     alloc: Global,
     s: &State,
     defs: &Defs,
-    named: &NamedRule<'_>,
-    block: EdgeId,
-    ids: &[EdgeId],
-    place: u64,
+    fold: &FoldSeg,
 ) -> Result<Vec<State>, LogicFault>
-    ensures { (know : Test) → Tells know s.now → AnswersBy (λ v. v.items) (folding_seg know defs.now
-        named.now.pred named.now.rule named.now.names.now block ids.now place s.now) result }
+    ensures { (know : Test) → Tells know s.now → AnswersBy (λ v. v.items)
+        (folding_seg know defs.now fold.now s.now) result }
 {
-    let edge = folded_seg(alloc, s, defs, named, block, ids, place)?;
-    match with_folded(alloc, s, Some(block), ids, edge) {
+    let edge = folded_seg(alloc, s, defs, fold)?;
+    match with_folded(alloc, s, Some(fold.block), fold.edges.as_slice(), edge) {
         Ok(next) => Ok(next),
         Err(_) => Err(LogicFault::NoMemory),
     }

@@ -54,7 +54,7 @@ fn put_atoms(pure: &mut Pure, atoms: &[Atom]) -> Result<(), NoMemory>
     Ok(())
 }
 
-/// Forgets a node that no variable and no edge names: what was derived of the others is written, and nothing else is.
+/// Forgets a node that no variable and no edge names: what was entailed of the others is written, and nothing else is.
 /// The edges and the nodes of variables stay. Without memory nothing changes.
 pub fn forget(alloc: Global, state: &mut State, node: NodeId) -> Result<(), NoMemory>
     requires made { IsMade state.old }

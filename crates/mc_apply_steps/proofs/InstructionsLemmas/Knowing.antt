@@ -51,7 +51,7 @@ pub parts_known : (s : State) (o : Operand) (os : List Operand) → is_some (ope
     → (is_some (operand_node s o) ≡ true) × (is_some (operand_nodes (with_operand s o) os) ≡ true)
 parts_known s o os e = both_parts (is_some (operand_node s o)) (is_some (operand_nodes (with_operand s o) os)) (sym (first_known (operand_node s o) (operand_nodes (with_operand s o) os)) ∙ e)
 
--- the nodes that are left behind those that were put
+-- the nodes that are left after those that were put
 pub put_first : (put : List NodeId) (s : State) (o : Operand) (os : List Operand) (n : NodeId) → operand_node s o ≡ Some n
     → option_map (λ ns. (put ++ n ∷ []) ++ ns) (operand_nodes (with_operand s o) os) ≡ option_map (λ ns. put ++ ns) (operand_nodes s (o ∷ os))
 put_first put s o os n is = at (operand_nodes (with_operand s o) os) ∙ ap (λ m. option_map (λ ns. put ++ ns) (with_first m (operand_nodes (with_operand s o) os))) (sym is)
@@ -84,7 +84,7 @@ some_of (Some x) e = (x, refl)
 
 -- ---- operands that are put one after the other
 
--- of all operands these are left at a state, behind the nodes that were put
+-- of all operands these are left at a state, after the nodes that were put
 pub record AreLeft (start : State) (all : List Operand) (s : State) (put : List NodeId) (rest : List Operand) : Type 0 where
   pub nodes : option_map (λ ns. put ++ ns) (operand_nodes s rest) ≡ operand_nodes start all
   pub state : with_operands s rest ≡ with_operands start all

@@ -5,7 +5,9 @@ use Rattle.mc_base.specs.declared.ids.PointId.{PointId}
 use Rattle.mc_flow.specs.declared.graph.Flow.{Flow}
 use Rattle.mc_state.specs.Known.{Test}
 use Rattle.mc_state.specs.State.{State}
-use Rattle.mc_rules_steps.specs.Judges.{InstrRule, S1, S2, S3, S4, S5, S6, S7, S8, S9, S10, S11, S12, S13, S14, S15, S16, S17, S18, stepping_code}
+use Rattle.mc_state.specs.declared.line.InstrRule.{InstrRule}
+use Rattle.mc_state.specs.declared.line.InstrRule.TheVariants.{S1, S2, S3, S4, S5, S6, S7, S8, S9, S10, S11, S12, S13, S14, S15, S16, S17, S18}
+use Rattle.mc_rules_steps.specs.Judges.{stepping_code}
 use Rattle.mc_rules_steps.specs.Sums.{Ranges}
 
 pub no_point : (know : Test) (range : Ranges) (flow : Flow) (rule : InstrRule) (p : PointId) (s : State) → stepping_code know range flow rule p None s ≡ Err 1

@@ -59,8 +59,7 @@ fn assume_apart(s: &mut State, a: NodeId, b: NodeId) -> Result<(), NoMemory>
     requires { AreOfOneKind s.old.kinds a b }
     ensures { OnOk result (s.new ≡ with_atom s.old (Ne a b (pos 0))) }
 {
-    s.assume(&Atom::Ne(a, b, 0))?;
-    Ok(())
+    s.assume(&Atom::Ne(a, b, 0))
 }
 
 /// Writes that the left number is greater, where they lie in these ranges. Without memory the state is lost.

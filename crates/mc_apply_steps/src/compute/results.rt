@@ -223,10 +223,7 @@ fn assume_if(s: &mut State, atom: &Option<Atom>) -> Result<(), NoMemory>
     ensures { OnOk result (s.new ≡ with_atoms s.old (list_of atom.now)) }
 {
     match atom {
-        Some(atom) => {
-            s.assume(atom)?;
-            Ok(())
-        }
+        Some(atom) => s.assume(atom),
         None => Ok(()),
     }
 }
@@ -345,14 +342,8 @@ fn assume_offsets(
     ensures { OnOk result (s.new ≡ with_atoms s.old ((operation op).offsets node a b (ends_of left) (ends_of right))) }
 {
     match op {
-        Operation::Sum => {
-            assume_sum(s, node, a, b, left, right)?;
-            Ok(())
-        }
-        Operation::Difference => {
-            assume_difference(s, node, a, left, right)?;
-            Ok(())
-        }
+        Operation::Sum => assume_sum(s, node, a, b, left, right),
+        Operation::Difference => assume_difference(s, node, a, left, right),
         Operation::Product => Ok(()),
     }
 }

@@ -42,8 +42,7 @@ pub fn put_operand(s: &mut State, o: Operand) -> Result<NodeId, NoMemory>
     ensures state { OnOk result (s.new ≡ with_operand s.old o) }
 {
     let value = read(s, o).unwrap();
-    let node = put(s, &value)?;
-    Ok(node)
+    put(s, &value)
 }
 
 /// Puts the nodes of operands that are known into a state, from left to right, and answers them. Without memory the state

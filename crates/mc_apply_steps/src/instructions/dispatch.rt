@@ -9,10 +9,9 @@ ghost use Rattle.mc_rules_steps.specs.Judges.{adding, allocating, asserting, ass
 ghost use Rattle.mc_rules_steps.specs.Operands.{code_at};
 ghost use Rattle.mc_rules_steps.specs.Sums.{HaveRanges, Ranges};
 ghost use Rattle.mc_apply_steps.specs.Step.Stepped.{Steps};
-ghost use Rattle.mc_apply_steps.specs.Instructions.Named.{FitRanges, named};
+ghost use Rattle.mc_apply_steps.specs.Instructions.Ranges.{FitRanges};
 
 use crate::compute::{Operation, compute, test_at_most};
-use crate::instructions::InstrRule;
 use crate::instructions::shapes::{assert_shape, assume_shape};
 use crate::step::{
     Refused, Stepped, assert_empty, copy, end, forget, free, free_null, load, malloc, skip, store,
@@ -22,6 +21,7 @@ use mc_base::PointId;
 use mc_flow::defs::Defs;
 use mc_flow::{Flow, Instr};
 use mc_rules_steps::instructions_fit;
+use mc_state::InstrRule;
 use mc_symbolic::State;
 use std::alloc::Global;
 
@@ -235,7 +235,7 @@ fn step_at(
 ) -> Result<Stepped, Refused>
     requires { FitsAt code.now s }
     ensures { (know : Test) (range : Ranges) → Tells know s → FitRanges range code.now s
-        → Steps (stepping_code know range flow.now (named rule) p (Some code.now) s) s result }
+        → Steps (stepping_code know range flow.now rule p (Some code.now) s) s result }
 {
     match rule {
         InstrRule::S1 => skip_at(code, s),
@@ -282,7 +282,7 @@ pub fn step(
     requires valid { IsValid flow.now defs.now }
     requires made { IsWellMade defs.now flow.now.vars flow.now.structs.list s }
     ensures { (know : Test) (range : Ranges) → Tells know s → HaveRanges range flow.now p s
-        → Steps (stepping know range flow.now (named rule) p s) s result }
+        → Steps (stepping know range flow.now rule p s) s result }
 {
     // For the proof alone: the instruction is one of a program for which the state is well made.
     instructions_fit();

@@ -18,9 +18,9 @@ ghost use Rattle.mc_apply_steps.specs.Step.Stepped.{Steps, successors};
 ghost use Rattle.mc_apply_steps.specs.Step.Values.{CanPut, value_node, with_value};
 
 use crate::step::moves::{branched, moved_to};
-use crate::step::operands::{NULL, Value, node_of, put, read};
+use crate::step::operands::{Value, node_of, put, read};
 use crate::step::{Refused, Stepped};
-use mc_base::{Atom, EdgeId, Items, Kind, NoMemory, NodeId, PointId, StructId, VarId};
+use mc_base::{Atom, EdgeId, Items, Kind, NULL, NoMemory, NodeId, PointId, StructId, VarId};
 use mc_flow::{Flow, Operand, Structs};
 use mc_rules_steps::{blocks_are_there, operands_fit};
 use mc_state::graph::Edge;

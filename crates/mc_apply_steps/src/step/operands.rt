@@ -2,12 +2,10 @@
 ghost use Rattle.std.specs.Prelude.{◌≡◌, IfOk, OnOk};
 ghost use Rattle.mc_apply_steps.specs.Step.Values.{CanPut, FitsRead, IsRead, StaysRead, value_node, with_value};
 
-use mc_base::{NoMemory, NodeId};
+use mc_base::{NULL, NoMemory, NodeId};
 use mc_flow::Operand;
 use mc_rules_steps::operands_fit;
 use mc_symbolic::changes::{State, add_number};
-
-pub const NULL: NodeId = NodeId(0);
 
 /// What an operand is: a node that is there, or a number that gets a node of its own.
 #[derive(Clone, Copy)]

@@ -27,7 +27,7 @@ front_after radix n (d ∷ digits) (suc i) positive = front_after radix (n * rad
 pub front_value : (radix : ℕ) (digits : List ℕ) (i : ℕ) → 1 ≤ radix → digits_value radix (take i digits) ≤ digits_value radix digits
 front_value radix digits i positive = front_after radix 0 digits i positive
 
--- one more digit, read behind the first i
+-- one more digit, read after the first i
 pub record IsNextDigit (radix : ℕ) (digits : List ℕ) (i value digit : ℕ) : Type 0 where
   pub within : i < length digits
   pub value_is : value ≡ digits_value radix (take i digits)

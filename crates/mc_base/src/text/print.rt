@@ -11,8 +11,7 @@ pub fn print_number(alloc: Global, out: &mut Vec<u8>, number: u64) -> Result<(),
     ensures { OnOk result (out.new.items ≡ out.old.items ++ decimal number) }
 {
     let text = format!(in alloc; "{number}")?;
-    out.extend_from_slice(text.as_bytes())?;
-    Ok(())
+    out.extend_from_slice(text.as_bytes())
 }
 
 /// Adds a place: its line, a colon and its column.
@@ -21,6 +20,5 @@ pub fn print_place(alloc: Global, out: &mut Vec<u8>, place: Place) -> Result<(),
 {
     print_number(alloc, out, place.line as u64)?;
     out.extend_from_slice(b":")?;
-    print_number(alloc, out, place.column as u64)?;
-    Ok(())
+    print_number(alloc, out, place.column as u64)
 }

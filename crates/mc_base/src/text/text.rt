@@ -10,7 +10,7 @@ pub struct Text {
     bytes: SmallVec<u8, 16>,
 }
 
-/// Lets go of the bytes. What holds a text calls this.
+/// Drops the bytes. What holds a text calls this.
 impl Drop for Text {
     fn drop(self) {
         let Text { bytes } = self;

@@ -2,7 +2,7 @@
 use crate::text::place::Place;
 use crate::text::text::Text;
 
-/// What a token is. `End` stands once, behind the last byte.
+/// What a token is. `End` stands once, after the last byte.
 #[derive(Clone, Copy, Debug, PartialEq, Eq)]
 pub enum TokenKind {
     Name,

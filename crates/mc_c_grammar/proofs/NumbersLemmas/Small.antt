@@ -22,6 +22,6 @@ and_small (one_small small rest) more = one_small small (and_small rest more)
 pub alone_small : {one : List ℕ} → AreSmall one → AreSmall (one ++ [])
 alone_small one = and_small one no_number
 
--- those of a list with one more behind
+-- those of a list with one more after
 pub behind_small : {X : Type 0} (numbers : X → List ℕ) (xs : List X) (x : X) → AreSmall (flat_map numbers xs) → AreSmall (numbers x) → AreSmall (flat_map numbers (xs ++ x ∷ []))
 behind_small numbers xs x before one = subst AreSmall (sym (flat_map-append numbers xs (x ∷ []))) (and_small before (alone_small one))

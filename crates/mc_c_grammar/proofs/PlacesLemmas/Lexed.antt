@@ -58,11 +58,11 @@ some_prefix : (v : Bool) (m : ℕ) → v ≡ true → 0 < cond v (1 + m) 0
 some_prefix true m e = omega arith
 some_prefix false m e = absurd (false≢true e)
 
-or_left : (p q : Bool) → p ≡ true → (p || q) ≡ true
+pub or_left : (p q : Bool) → p ≡ true → (p || q) ≡ true
 or_left true q e = refl
 or_left false q e = absurd (false≢true e)
 
-or_right : (p q : Bool) → q ≡ true → (p || q) ≡ true
+pub or_right : (p q : Bool) → q ≡ true → (p || q) ≡ true
 or_right true q e = refl
 or_right false q e = e
 

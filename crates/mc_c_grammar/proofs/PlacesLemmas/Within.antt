@@ -48,6 +48,6 @@ from_one {places_of = places_of} {tokens = tokens} {more = more} (grown new e w)
 pub from_none : {X : Type 0} {places_of : List X → Places} {all : List X} {tokens : Tokens} {more : Places} → Grown places_of [] all tokens more → AreWithin (places_of all ++ more) tokens
 from_none {places_of = places_of} {tokens = tokens} {more = more} (grown new e w) = subst (λ l. AreWithin (places_of l ++ more) tokens) (sym e) w
 
--- of two parts, one behind the other
+-- of two parts, one after the other
 pub in_turn : (one other more : Places) {tokens : Tokens} → AreWithin (one ++ (other ++ more)) tokens → AreWithin ((one ++ other) ++ more) tokens
 in_turn one other more {tokens = tokens} within = subst (λ places. AreWithin places tokens) (sym (append_assoc one other more)) within

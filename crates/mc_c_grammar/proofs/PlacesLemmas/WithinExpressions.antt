@@ -1,4 +1,4 @@
--- Expressions and conditions declare nothing: places behind them stay places of tokens.
+-- Expressions and conditions declare nothing: places after them stay places of tokens.
 use Rattle.mc_c_syntax.specs.Ast.Trees.{Left, Expr, Cond}
 use Rattle.mc_c_syntax.specs.Ast.Names.{Tokens}
 use Rattle.mc_c_syntax.specs.Ast.Grammar.{Fields, none, more, IsLeft, named, IsUnary, negative, numeral, null_word, input_call, variable, in_parens, Factors, no_factor, factor, IsTerm, product, Terms, no_term, added, taken, IsSum, sum_of}

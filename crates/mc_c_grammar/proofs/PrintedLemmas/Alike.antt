@@ -59,7 +59,7 @@ alias_again (same_number p q) is = absurd (let n = is.name in grind arith)
 alias_again (same_end p q) is = absurd (let n = is.name in grind arith)
 
 -- a word spells one number
-one_number : {word : List ℕ} {m n : ℕ} → Spells word m → Spells word n → m ≡ n
+pub one_number : {word : List ℕ} {m n : ℕ} → Spells word m → Spells word n → m ≡ n
 one_number (as_zero e v) (as_zero f w) = v ∙ sym w
 one_number (as_zero e v) (as_decimal d f w) = absurd (f (ap (λ l. slice_index l 0) e))
 one_number (as_zero e v) (as_hexadecimal digits f d w) = absurd (let g = sym e ∙ f in grind arith)
@@ -104,6 +104,6 @@ ap_two f {a' = a'} {b = b} p q = ap (λ x. f x b) p ∙ ap (f a') q
 pub ap_three : {A B C D : Type 0} (f : A → B → C → D) {a a' : A} {b b' : B} {c c' : C} → a ≡ a' → b ≡ b' → c ≡ c' → f a b c ≡ f a' b' c'
 ap_three f {a' = a'} {b = b} {c = c} p q r = ap (λ x. f x b c) p ∙ ap_two (f a') q r
 
--- one more behind lists that say the same
+-- one more after lists that say the same
 pub one_more : {X : Type 0} (f : X → X) (x y : X) (xs ys : List X) → map f xs ≡ map f ys → f x ≡ f y → map f (xs ++ x ∷ []) ≡ map f (ys ++ y ∷ [])
 one_more f x y xs ys p q = map-append f xs (x ∷ []) ∙ ap_two (λ l m. l ++ m ∷ []) p q ∙ sym (map-append f ys (y ∷ []))

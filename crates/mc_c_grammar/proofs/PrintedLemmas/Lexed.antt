@@ -1,5 +1,5 @@
 -- The words that are printed for lexed tokens are tokens.
-use Rattle.std.proofs.Common.{◌≡◌, ◌<◌, ◌≤◌, ◌+◌, ◌^◌, ℕ, zero, suc, Bool, true, false, cond, List, [], ◌∷◌, length, take, refl, ap, sym, ◌∙◌, subst, arith, ◌&&◌, ◌||◌, Ok, Err}
+use Rattle.std.proofs.Common.{◌≡◌, ◌<◌, ◌≤◌, ◌+◌, ◌^◌, ℕ, zero, suc, Bool, true, false, cond, List, [], ◌∷◌, length, take, refl, ap, sym, ◌∙◌, subst, arith, ◌&&◌, Ok, Err}
 use Rattle.std.specs.Prelude.{IsTrue}
 use Rattle.std.specs.Char.{digit_value}
 use Rattle.std.specs.List.{list_all, prefix_len}
@@ -19,8 +19,9 @@ use Rattle.mc_c_syntax.specs.Lex.Readings.{Reading, Reads, at_end, at_fault, pas
 use Rattle.mc_c_grammar.specs.Spelling.Words.{Words}
 use Rattle.mc_c_grammar.specs.Printed.Printable.{IsPrintable, ArePrintable, name_word, number_word, mark_word, none_printable, one_printable}
 use Rattle.mc_c_grammar.proofs.PrintedLemmas.Spelled.{IsWordOf, of_name, of_mark, of_number, AreWordsOf, no_words, some_words}
+use Rattle.mc_c_grammar.proofs.PlacesLemmas.Lexed.{or_left, or_right}
 
--- a name is spelled by letters and digits behind a letter
+-- a name is spelled by letters and digits after a letter
 abbrev pub IsLexed : Token → Type 0
 IsLexed token = token.kind ≡ TokenKind.Name → IsTrue (is_letter (first token.text)) × IsTrue (list_all is_word token.text)
 
@@ -31,14 +32,6 @@ AreLexed (token ∷ tokens) = IsLexed token × AreLexed tokens
 abbrev AllLexed : Reading → Type 0
 AllLexed (Ok tokens) = AreLexed tokens
 AllLexed (Err fault) = Unit {0}
-
-or_left : (p q : Bool) → p ≡ true → (p || q) ≡ true
-or_left true q e = refl
-or_left false q e = absurd (false≢true e)
-
-or_right : (p q : Bool) → q ≡ true → (p || q) ≡ true
-or_right true q e = refl
-or_right false q e = e
 
 and_both : (p q : Bool) → p ≡ true → q ≡ true → (p && q) ≡ true
 and_both true q e f = f

@@ -32,7 +32,7 @@ named is more = some_words (of_name is.kind refl) more
 pub numbered : {n : ℕ} {token : Token} {tokens : Tokens} {words : Words} → IsNumber token n → AreWordsOf tokens words → AreWordsOf (token ∷ tokens) (decimal n ∷ words)
 numbered is more = some_words (of_number is refl) more
 
--- the tokens of a chain have words, which stand behind those of what it began with
+-- the tokens of a chain have words, which stand after those of what it began with
 abbrev pub Chained : Tokens → Words → (Words → Words) → Type 0
 Chained tokens all before = (words : Words) × AreWordsOf tokens words × (all ≡ before words)
 

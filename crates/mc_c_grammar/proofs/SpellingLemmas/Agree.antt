@@ -57,7 +57,7 @@ close_two marks f other is is' same = same
 close_two marks f {a = a} other is is' (early so) = absurd (conflict marks a other is.text so)
 close_two marks f {b = b} other is is' (late so) = absurd (conflict marks b other is'.text so)
 
--- what holds of the tokens behind the first one
+-- what holds of the tokens after the first one
 abbrev pub Behind : (Tokens → Type 0) → Tokens → Type 0
 Behind F [] = ⊥
 Behind F (token ∷ tokens) = F tokens

@@ -1,15 +1,14 @@
 -- An expression is spelled once.
-use Rattle.std.proofs.Common.{◌≡◌, ℕ, List, [], ◌∷◌, refl, ap, sym, ◌∙◌, subst}
-use Rattle.std.specs.Prelude.{codes, slice_index}
-use Rattle.std.specs.Str.Parse.{digits_value}
+use Rattle.std.proofs.Common.{◌≡◌, ℕ, List, [], ◌∷◌, refl, ap, subst}
+use Rattle.std.specs.Prelude.{codes}
 use native.Mathlib.Omega.{arith}
 use Rattle.mc_base.specs.declared.text.place.Place.{Place}
 use Rattle.mc_base.specs.declared.text.token.Token.{Token}
-use Rattle.mc_base.specs.Text.Numbers.{Spells, as_zero, as_decimal, as_hexadecimal}
 use Rattle.mc_c_syntax.specs.Ast.Trees.{Left, Expr, number, value, minus, parens, times, plus, difference}
 use Rattle.mc_c_syntax.specs.Ast.Names.{Tokens, IsMark, is_in}
 use Rattle.mc_c_syntax.specs.Ast.Grammar.{Fields, none, more, IsLeft, named, IsUnary, negative, numeral, null_word, input_call, variable, in_parens, Factors, no_factor, factor, IsTerm, product, Terms, no_term, added, taken, IsSum, sum_of}
 use Rattle.mc_c_grammar.proofs.SpellingLemmas.Agree.{Begins, Agree, same, early, late, agree_then, wider, conflict}
+use Rattle.mc_c_grammar.proofs.PrintedLemmas.Alike.{one_number}
 
 abbrev pub unary_marks : List (List ℕ)
 unary_marks = codes "->" ∷ []
@@ -19,18 +18,6 @@ term_marks = codes "*" ∷ unary_marks
 
 abbrev pub sum_marks : List (List ℕ)
 sum_marks = codes "+" ∷ codes "-" ∷ term_marks
-
--- a word spells one number
-pub one_number : {word : List ℕ} {m n : ℕ} → Spells word m → Spells word n → m ≡ n
-one_number (as_zero e v) (as_zero f w) = v ∙ sym w
-one_number (as_zero e v) (as_decimal d f w) = absurd (f (ap (λ l. slice_index l 0) e))
-one_number (as_zero e v) (as_hexadecimal digits f d w) = absurd (let g = sym e ∙ f in grind arith)
-one_number (as_decimal d f w) (as_zero e v) = absurd (f (ap (λ l. slice_index l 0) e))
-one_number (as_decimal d f w) (as_decimal d' f' w') = w ∙ sym w'
-one_number (as_decimal d f w) (as_hexadecimal digits e d' w') = absurd (f (ap (λ l. slice_index l 0) e))
-one_number (as_hexadecimal digits f d w) (as_zero e v) = absurd (let g = sym e ∙ f in grind arith)
-one_number (as_hexadecimal digits e d w) (as_decimal d' f' w') = absurd (f' (ap (λ l. slice_index l 0) e))
-one_number (as_hexadecimal digits e d w) (as_hexadecimal digits' e' d' w') = let g = sym e ∙ e' in let h : digits ≡ digits' = cc in w ∙ ap (digits_value 16) h ∙ sym w'
 
 pub one_path : {l x y : Left} {ts r s : Tokens} → Fields l ts x r → Fields l ts y s → Agree unary_marks x r y s
 one_path none none = same
@@ -59,7 +46,7 @@ behind_parens place same is is' = same
 behind_parens place {a = a} (early so) is is' = absurd (conflict sum_marks a refl is.text so)
 behind_parens place {b = b} (late so) is is' = absurd (conflict sum_marks b refl is'.text so)
 
--- what a chain may be behind, where it could go on with one of these marks
+-- what a chain may be after, where it could go on with one of these marks
 pub stays_term : {a e : Expr} {ts r : Tokens} → Factors a ts e r → Begins unary_marks ts → Begins term_marks r
 stays_term {ts = ts} no_factor b = wider (codes "*") unary_marks ts b
 stays_term (factor {star = star} is unary rest) b = absurd (conflict unary_marks star refl is.text b)

@@ -15,8 +15,9 @@ use Rattle.mc_c_syntax.specs.Ast.Names.{Tokens, IsMark, IsWord, IsName, name_of,
 use Rattle.mc_c_syntax.specs.Ast.Grammar.{Fields, none, more, IsLeft, named, IsUnary, negative, numeral, null_word, input_call, variable, in_parens, Factors, no_factor, factor, product, Terms, no_term, added, taken, IsSum, sum_of}
 use Rattle.mc_c_syntax.specs.Ast.Grammar.{MoreExpressions, last, next, IsCall, without, with_some, IsBase, int, tagged, alias, IsStar, star, no_star, IsDeclarator, declarator, IsCast, no_cast, cast, IsSize, of_type, of_parens, of_value, IsRight, sum, called, allocated, IsInitial, bare, with_value, MoreInitials, last_initial, next_initial, IsDeclaration, declared, IsSimple, assigned, adding, subtracting, incremented, decremented, incremented_first, decremented_first, performed, IsArgument, name_argument, null_argument, number_argument, negative_argument, MoreArguments, last_argument, next_argument}
 use Rattle.mc_c_grammar.proofs.SpellingLemmas.Agree.{Begins, Agree, same, early, late, agree_then, wider, conflict, never}
-use Rattle.mc_c_grammar.proofs.SpellingLemmas.UniqueExpressions.{unary_marks, sum_marks, one_left, one_sum, one_number}
+use Rattle.mc_c_grammar.proofs.SpellingLemmas.UniqueExpressions.{unary_marks, sum_marks, one_left, one_sum}
 use Rattle.mc_c_grammar.proofs.SpellingLemmas.UniqueConditions.{unary_to_sum}
+use Rattle.mc_c_grammar.proofs.PrintedLemmas.Alike.{one_number}
 
 abbrev pub list_marks : List (List ℕ)
 list_marks = codes "," ∷ sum_marks
@@ -165,7 +166,7 @@ call_first : {c : CallTree} {e : Expr} {ts r s : Tokens} → IsCall c ts s → I
 call_first (without is before after) e = before_parens e is before
 call_first (with_some is before inner path after) e = before_parens e is before
 
--- an expression behind which `malloc` stands
+-- an expression after which `malloc` stands
 chain_before : {a e : Expr} {t : Token} {ts r : Tokens} → Terms a (t ∷ ts) e r → IsWord (codes "malloc") t → Begins right_marks r
 chain_before no_term is = ap (is_in right_marks) is.text
 chain_before (added mark term path) is = absurd (grind arith)

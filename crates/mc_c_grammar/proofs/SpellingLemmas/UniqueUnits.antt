@@ -66,7 +66,7 @@ no_brace_declarator : {ds : List Declarator} {t : Token} {ts r : Tokens} → IsD
 no_brace_declarator (declarators (declarator (star is) name) path) mark = absurd (grind arith)
 no_brace_declarator (declarators (declarator no_star name) path) mark = absurd (grind arith)
 
--- declarators stand behind both
+-- declarators stand after both
 sure_aliased : {aliases : List (List ℕ)} {x y : AliasedTree} {ts r s : Tokens} {ds es : List Declarator} {m n : Tokens} → IsAliased aliases x ts r → IsAliased aliases y ts s → IsDeclarators ds r m → IsDeclarators es s n → Agree [] x r y s
 sure_aliased (base_aliased b) (base_aliased b') ds es = lift of_base (one_base b b')
 sure_aliased (base_aliased (int is)) (struct_aliased (struct is' name before one path after)) ds es = absurd (grind arith)
@@ -176,7 +176,7 @@ one_body (prototype is) (body is' path after) = absurd (grind arith)
 one_body (body is path after) (prototype is') = absurd (grind arith)
 one_body (body {before = before} is path after) (body is' path' after') = body_ends before.place (one_statements path after path' after')
 
--- the parts of a function, one behind the other
+-- the parts of a function, one after the other
 module _ (aliases : List (List ℕ)) where
   with_body : (f : Option Place) (v : Returned) (n : Name) (ps : ParametersTree) {x y : Option BodyTree} {r s : Tokens} → Agree [] x r y s → Agree {X = FunctionTree} [] (record { static_place = f; returned = v; name = n; parameters = ps; body = x }) r (record { static_place = f; returned = v; name = n; parameters = ps; body = y }) s
   with_body f v n ps same = same

@@ -10,7 +10,7 @@ use Rattle.mc_c_syntax.specs.Ast.Names.{is_in}
 use Rattle.mc_c_syntax.specs.Ast.Classes.{grammar_marks}
 use Rattle.mc_c_grammar.specs.Spelling.Words.{Words}
 
--- a word is one token, of this kind: letters and digits behind a letter, a number, or a mark of the grammar
+-- a word is one token, of this kind: letters and digits after a letter, a number, or a mark of the grammar
 pub data IsPrintable : List ℕ → TokenKind → Type 0 where
   name_word : {word : List ℕ} → IsTrue (is_letter (first word)) → IsTrue (list_all is_word word) → IsPrintable word TokenKind.Name
   number_word : {word : List ℕ} {n : ℕ} → IsTrue (is_digit (first word)) → IsTrue (list_all is_word word)

@@ -29,11 +29,11 @@ use Rattle.mc_c_syntax.specs.Ast.Trees.{function, UnitTree}
 abbrev pub Words : Type 0
 Words = List (List ℕ)
 
--- the words behind which a line ends
+-- the words after which a line ends
 abbrev pub line_ends : Words
 line_ends = codes ";" ∷ codes "{" ∷ codes "}" ∷ []
 
--- what stands behind a word: a line feed or a blank
+-- what stands after a word: a line feed or a blank
 abbrev pub gap : List ℕ → ℕ
 gap word = cond (is_in line_ends word) 10 32
 
@@ -72,7 +72,7 @@ condition_words (enclosed p c) more = codes "(" ∷ condition_words c (codes ")"
 condition_words (both a b) more = condition_words a (codes "&&" ∷ condition_words b more)
 condition_words (either a b) more = condition_words a (codes "||" ∷ condition_words b more)
 
--- what was to be printed behind the text before is what is still to be printed behind the text now
+-- what was to be printed after the text before is what is still to be printed after the text now
 abbrev pub Continues : List ℕ → (Words → Words) → List ℕ → (Words → Words) → Type 0
 Continues before all now left = (more : Words) → before ++ text_of (all more) ≡ now ++ text_of (left more)
 

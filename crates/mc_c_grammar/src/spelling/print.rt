@@ -15,7 +15,7 @@ use mc_base::text::Place;
 use mc_c_syntax::ast::{Body, Function, Item, Parameter, Parameters, Returned, Unit};
 use std::alloc::{AllocError, Global};
 
-/// The text of a program: its words, each with a blank behind it, or with a line feed behind a `;`, a `{` and a `}`.
+/// The text of a program: its words, each with a blank after it, or with a line feed after a `;`, a `{` and a `}`.
 pub fn print_unit(alloc: Global, unit: &Unit) -> Result<Vec<u8>, AllocError>
     ensures { IfOk result (λ text. text.items ≡ text_of (unit_words (unit_of unit.now) [])) }
 {
@@ -52,8 +52,7 @@ fn print_function(alloc: Global, out: &mut Vec<u8>, function: &Function) -> Resu
 {
     print_static(out, &function.static_place)?;
     print_returned(out, &function.returned)?;
-    print_signature(alloc, out, function)?;
-    Ok(())
+    print_signature(alloc, out, function)
 }
 
 // The name, the parameters and the body.
@@ -65,8 +64,7 @@ fn print_signature(alloc: Global, out: &mut Vec<u8>, function: &Function) -> Res
     print_opening(out, function.name.text.as_slice())?;
     print_parameters(out, &function.parameters)?;
     print_word(out, b")")?;
-    print_body(alloc, out, &function.body)?;
-    Ok(())
+    print_body(alloc, out, &function.body)
 }
 
 fn print_static(out: &mut Vec<u8>, static_place: &Option<Place>) -> Result<(), AllocError>
@@ -110,8 +108,7 @@ fn print_listed(out: &mut Vec<u8>, parameters: &[Parameter]) -> Result<(), Alloc
         return Ok(());
     };
     print_parameter(out, first)?;
-    print_more_parameters(out, rest)?;
-    Ok(())
+    print_more_parameters(out, rest)
 }
 
 fn print_more_parameters(out: &mut Vec<u8>, parameters: &[Parameter]) -> Result<(), AllocError>
@@ -128,8 +125,7 @@ fn print_parameter(out: &mut Vec<u8>, parameter: &Parameter) -> Result<(), Alloc
     ensures { IfOk result (λ _. Prints out.old.items (parameter_words parameter.now) out.new.items) }
 {
     print_base(out, &parameter.base)?;
-    print_declarator(out, &parameter.declarator)?;
-    Ok(())
+    print_declarator(out, &parameter.declarator)
 }
 
 fn print_body(alloc: Global, out: &mut Vec<u8>, body: &Option<Body>) -> Result<(), AllocError>

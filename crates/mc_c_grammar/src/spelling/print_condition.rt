@@ -101,8 +101,7 @@ fn push_both<'a>(
 {
     push(parts, ConditionPart::Whole(second))?;
     push(parts, ConditionPart::Mark(mark))?;
-    push(parts, ConditionPart::Whole(first))?;
-    Ok(())
+    push(parts, ConditionPart::Whole(first))
 }
 
 fn push<'a>(parts: &mut Vec<ConditionPart<'a>>, part: ConditionPart<'a>) -> Result<(), AllocError>

@@ -88,8 +88,7 @@ fn push_both<'a>(
 {
     push(parts, ExpressionPart::Whole(second))?;
     push(parts, ExpressionPart::Mark(mark))?;
-    push(parts, ExpressionPart::Whole(first))?;
-    Ok(())
+    push(parts, ExpressionPart::Whole(first))
 }
 
 fn push<'a>(parts: &mut Vec<ExpressionPart<'a>>, part: ExpressionPart<'a>) -> Result<(), AllocError>

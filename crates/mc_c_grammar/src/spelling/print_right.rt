@@ -17,8 +17,7 @@ pub fn print_call(alloc: Global, out: &mut Vec<u8>, call: &Call) -> Result<(), A
     print_name(out, &call.function)?;
     print_word(out, b"(")?;
     print_expressions(alloc, out, call.arguments.as_slice())?;
-    print_word(out, b")")?;
-    Ok(())
+    print_word(out, b")")
 }
 
 fn print_expressions(
@@ -32,8 +31,7 @@ fn print_expressions(
         return Ok(());
     };
     print_expression(alloc, out, first)?;
-    print_more_expressions(alloc, out, rest)?;
-    Ok(())
+    print_more_expressions(alloc, out, rest)
 }
 
 fn print_more_expressions(
@@ -78,8 +76,7 @@ pub fn print_declarator(out: &mut Vec<u8>, declarator: &Declarator) -> Result<()
     ensures { IfOk result (λ _. Prints out.old.items (declarator_words declarator.now) out.new.items) }
 {
     print_star(out, &declarator.pointer)?;
-    print_name(out, &declarator.name)?;
-    Ok(())
+    print_name(out, &declarator.name)
 }
 
 fn print_cast(out: &mut Vec<u8>, cast: &Cast) -> Result<(), AllocError>
@@ -88,8 +85,7 @@ fn print_cast(out: &mut Vec<u8>, cast: &Cast) -> Result<(), AllocError>
     print_word(out, b"(")?;
     print_base(out, &cast.base)?;
     print_star(out, &cast.pointer)?;
-    print_word(out, b")")?;
-    Ok(())
+    print_word(out, b")")
 }
 
 fn print_maybe_cast(out: &mut Vec<u8>, cast: &Option<Cast>) -> Result<(), AllocError>
@@ -132,8 +128,7 @@ fn print_malloc(out: &mut Vec<u8>, malloc: &Malloc) -> Result<(), AllocError>
     print_maybe_cast(out, &malloc.cast)?;
     print_opening(out, b"malloc")?;
     print_size(out, &malloc.size)?;
-    print_word(out, b")")?;
-    Ok(())
+    print_word(out, b")")
 }
 
 pub fn print_right(alloc: Global, out: &mut Vec<u8>, right: &RightSide) -> Result<(), AllocError>

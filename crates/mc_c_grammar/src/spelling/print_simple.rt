@@ -26,8 +26,7 @@ pub fn print_declaration(
 {
     print_base(out, &declaration.base)?;
     print_initials(alloc, out, declaration.items.as_slice())?;
-    print_word(out, b";")?;
-    Ok(())
+    print_word(out, b";")
 }
 
 fn print_initials(alloc: Global, out: &mut Vec<u8>, initials: &[Initial]) -> Result<(), AllocError>
@@ -37,8 +36,7 @@ fn print_initials(alloc: Global, out: &mut Vec<u8>, initials: &[Initial]) -> Res
         return Ok(());
     };
     print_initial(alloc, out, first)?;
-    print_more_initials(alloc, out, rest)?;
-    Ok(())
+    print_more_initials(alloc, out, rest)
 }
 
 fn print_more_initials(
@@ -59,8 +57,7 @@ fn print_initial(alloc: Global, out: &mut Vec<u8>, initial: &Initial) -> Result<
     ensures { IfOk result (λ _. Prints out.old.items (initial_words (initial_of initial.now)) out.new.items) }
 {
     print_declarator(out, &initial.declarator)?;
-    print_value(alloc, out, &initial.value)?;
-    Ok(())
+    print_value(alloc, out, &initial.value)
 }
 
 fn print_value(
@@ -200,11 +197,10 @@ pub fn print_head(alloc: Global, out: &mut Vec<u8>, head: &ForHead) -> Result<()
 {
     print_opening(out, b"for")?;
     print_start(alloc, out, &head.start)?;
-    print_rest(alloc, out, head)?;
-    Ok(())
+    print_rest(alloc, out, head)
 }
 
-// What stands behind the first `;` of a `for`.
+// What stands after the first `;` of a `for`.
 fn print_rest(alloc: Global, out: &mut Vec<u8>, head: &ForHead) -> Result<(), AllocError>
     ensures { IfOk result
         (λ _. Prints out.old.items

@@ -22,7 +22,7 @@ pub enum StatementPart<'a> {
     Whole(&'a Statement),
     Several(&'a [Statement]),
     Mark(&'static [u8]),
-    /// What stands behind the statement of a `do`.
+    /// What stands after the statement of a `do`.
     Until(&'a Condition),
 }
 
@@ -119,8 +119,7 @@ fn print_free(alloc: Global, out: &mut Vec<u8>, pointer: &Expression) -> Result<
 {
     print_opening(out, b"free")?;
     print_expression(alloc, out, pointer)?;
-    print_ending(out)?;
-    Ok(())
+    print_ending(out)
 }
 
 // A word, a condition in parentheses, and `;`.
@@ -136,8 +135,7 @@ fn print_checked(
 {
     print_opening(out, word)?;
     print_condition(alloc, out, condition)?;
-    print_ending(out)?;
-    Ok(())
+    print_ending(out)
 }
 
 // A word, and a condition in parentheses.
@@ -153,8 +151,7 @@ fn print_guard(
 {
     print_opening(out, word)?;
     print_condition(alloc, out, condition)?;
-    print_word(out, b")")?;
-    Ok(())
+    print_word(out, b")")
 }
 
 fn print_assume_shape(
@@ -172,7 +169,7 @@ fn print_assume_shape(
     Ok(())
 }
 
-// What stands behind the predicate.
+// What stands after the predicate.
 fn print_variable(alloc: Global, out: &mut Vec<u8>, shape: &AssumeShape) -> Result<(), AllocError>
     ensures { IfOk result (λ _. Prints out.old.items
         (λ more. codes "," ∷ shape.now.variable.text
@@ -181,8 +178,7 @@ fn print_variable(alloc: Global, out: &mut Vec<u8>, shape: &AssumeShape) -> Resu
     print_word(out, b",")?;
     print_name(out, &shape.variable)?;
     print_more_arguments(alloc, out, shape.arguments.as_slice())?;
-    print_ending(out)?;
-    Ok(())
+    print_ending(out)
 }
 
 fn print_assert_shape(
@@ -201,7 +197,7 @@ fn print_assert_shape(
     Ok(())
 }
 
-// What stands behind the predicate.
+// What stands after the predicate.
 fn print_start(alloc: Global, out: &mut Vec<u8>, shape: &AssertShape) -> Result<(), AllocError>
     ensures { IfOk result (λ _. Prints out.old.items (λ more. codes ","
         ∷ argument_words shape.now.start (more_words argument_words shape.now.arguments.items (codes ")"
@@ -210,8 +206,7 @@ fn print_start(alloc: Global, out: &mut Vec<u8>, shape: &AssertShape) -> Result<
     print_word(out, b",")?;
     print_argument(alloc, out, &shape.start)?;
     print_more_arguments(alloc, out, shape.arguments.as_slice())?;
-    print_ending(out)?;
-    Ok(())
+    print_ending(out)
 }
 
 fn print_assert_empty(out: &mut Vec<u8>) -> Result<(), AllocError>
@@ -234,8 +229,7 @@ fn print_return(
 {
     print_word(out, b"return")?;
     print_returned(alloc, out, value)?;
-    print_word(out, b";")?;
-    Ok(())
+    print_word(out, b";")
 }
 
 fn print_returned(
@@ -268,8 +262,7 @@ fn push_else<'a>(
 {
     push(parts, StatementPart::Whole(second))?;
     push(parts, StatementPart::Mark(b"else"))?;
-    push(parts, StatementPart::Whole(first))?;
-    Ok(())
+    push(parts, StatementPart::Whole(first))
 }
 
 // The first of several statements is to be printed, and then the others.

@@ -18,8 +18,7 @@ fn print_declarators(out: &mut Vec<u8>, declarators: &[Declarator]) -> Result<()
         print_declarator(out, first)?;
         print_more_declarators(out, rest)?;
     }
-    print_word(out, b";")?;
-    Ok(())
+    print_word(out, b";")
 }
 
 fn print_more_declarators(out: &mut Vec<u8>, declarators: &[Declarator]) -> Result<(), AllocError>
@@ -36,8 +35,7 @@ fn print_field_list(out: &mut Vec<u8>, field: &Field) -> Result<(), AllocError>
     ensures { IfOk result (λ _. Prints out.old.items (field_list_words (field_of field.now)) out.new.items) }
 {
     print_base(out, &field.base)?;
-    print_declarators(out, field.declarators.as_slice())?;
-    Ok(())
+    print_declarators(out, field.declarators.as_slice())
 }
 
 fn print_field_lists(out: &mut Vec<u8>, fields: &[Field]) -> Result<(), AllocError>
@@ -54,8 +52,7 @@ pub fn print_struct(out: &mut Vec<u8>, structure: &Struct) -> Result<(), AllocEr
 {
     print_word(out, b"struct")?;
     print_name(out, &structure.name)?;
-    print_braces(out, structure.fields.as_slice())?;
-    Ok(())
+    print_braces(out, structure.fields.as_slice())
 }
 
 // Prints fields in braces.
@@ -66,8 +63,7 @@ fn print_braces(out: &mut Vec<u8>, fields: &[Field]) -> Result<(), AllocError>
 {
     print_word(out, b"{")?;
     print_field_lists(out, fields)?;
-    print_word(out, b"}")?;
-    Ok(())
+    print_word(out, b"}")
 }
 
 fn print_aliased(out: &mut Vec<u8>, aliased: &Aliased) -> Result<(), AllocError>
@@ -85,6 +81,5 @@ pub fn print_typedef(out: &mut Vec<u8>, typedef: &Typedef) -> Result<(), AllocEr
 {
     print_word(out, b"typedef")?;
     print_aliased(out, &typedef.aliased)?;
-    print_declarators(out, typedef.declarators.as_slice())?;
-    Ok(())
+    print_declarators(out, typedef.declarators.as_slice())
 }

@@ -65,7 +65,7 @@ digit_no_separator b e = grind (arith, nat_tests)
 digit_no_letter : (b : ℕ) → is_digit b ≡ true → is_letter b ≡ false
 digit_no_letter b e = grind (arith, nat_tests)
 
--- what the byte behind a slash says
+-- what the byte after a slash says
 abbrev pub slash_class : ℕ → ℕ
 slash_class b = cond (eqb b 47) 4 (cond (eqb b 42) 5 6)
 

@@ -1,4 +1,4 @@
--- A reading behind the tokens before it.
+-- A reading after the tokens before it.
 use Rattle.std.proofs.Common.{◌≡◌, List, [], ◌∷◌, ◌++◌, Ok, Err, refl, ap}
 use Rattle.mc_base.specs.declared.text.token.Token.{Token}
 use Rattle.mc_c_syntax.specs.declared.lex.fault.LexFault.{LexFault}

@@ -1,4 +1,4 @@
--- Room behind some bytes.
+-- Room after some bytes.
 use Rattle.std.proofs.Common.{◌≡◌, ◌+◌, ℕ, Bool, true, false, cond, eqb, List, [], ◌∷◌, length, arith}
 use Rattle.mc_c_syntax.specs.declared.lex.spot.Spot.{Spot}
 use Rattle.mc_c_syntax.specs.Lex.Spots.{step, behind, HasRoom}
@@ -13,7 +13,7 @@ step_room spot byte count room =
     (record { lines = omega (arith, room.lines); columns = omega (arith, room.columns) })
     (record { lines = omega (arith, room.lines); columns = omega (arith, room.columns) })
 
--- what stands behind some bytes has the room that they leave
+-- what stands after some bytes has the room that they leave
 pub room_behind : (spot : Spot) (bytes : List ℕ) (count total : ℕ) → length bytes + count ≡ total → HasRoom spot total → HasRoom (behind spot bytes) count
 room_behind spot [] count total e room = record { lines = omega (arith, room.lines, e); columns = omega (arith, room.columns, e) }
 room_behind spot (byte ∷ bytes) count total e room =

@@ -15,11 +15,11 @@ same_is name other same = (bytes_decides name other).0 same
 abbrev pub place_of : List (List ℕ) → List ℕ → Option ℕ
 place_of names name = position (λ n. is_same n name) names
 
-or_none : (o : Option ℕ) → o ≡ option_or o None
+pub or_none : (o : Option ℕ) → o ≡ option_or o None
 or_none None = refl
 or_none (Some i) = refl
 
-or_there : (o p : Option ℕ) → is_some o ≡ true → o ≡ option_or o p
+pub or_there : (o p : Option ℕ) → is_some o ≡ true → o ≡ option_or o p
 or_there None p there = absurd (true≢false (sym there))
 or_there (Some i) p there = refl
 

@@ -4,23 +4,23 @@ use Rattle.std.specs.List.{prefix_len}
 use Rattle.std.specs.Option.{option_or}
 use Rattle.std.specs.Prelude.{Option, Some, None, map, position, option_map}
 
-later_place : (n len : ℕ) (b c : Bool) → nat_lt (1 + n) (suc len) ≡ b → nat_lt n len ≡ c → cond b (Some (1 + n)) None ≡ option_map (λ i. suc i) (cond c (Some n) None)
+pub later_place : (n len : ℕ) (b c : Bool) → nat_lt (1 + n) (suc len) ≡ b → nat_lt n len ≡ c → cond b (Some (1 + n)) None ≡ option_map (λ i. suc i) (cond c (Some n) None)
 later_place n len true true p q = ap (λ i. Some i) (omega arith)
 later_place n len false false p q = refl
 later_place n len true false p q = grind arith
 later_place n len false true p q = grind arith
 
-position_step : (b : Bool) (n len : ℕ)
+pub position_step : (b : Bool) (n len : ℕ)
     → cond (nat_lt (cond (not b) (1 + n) 0) (suc len)) (Some (cond (not b) (1 + n) 0)) None ≡ cond b (Some 0) (option_map (λ i. suc i) (cond (nat_lt n len) (Some n) None))
 position_step true n len = let first : nat_lt 0 (suc len) ≡ true = grind arith in rw first refl
 position_step false n len = later_place n len _ _ refl refl
 
--- the first place, at the head or behind it
+-- the first place, at the head or after it
 pub position-cons : {X : Type 0} (p : X → Bool) (x : X) (xs : List X) → position p (x ∷ xs) ≡ cond (p x) (Some 0) (option_map (λ i. suc i) (position p xs))
 position-cons p x xs = position_step (p x) (prefix_len (λ y. not (p y)) xs) (length xs)
 
 -- the first place, among the first or else at the last
-push_step : (b : Bool) (o : Option ℕ) (c : Bool) (n : ℕ)
+pub push_step : (b : Bool) (o : Option ℕ) (c : Bool) (n : ℕ)
     → cond b (Some 0) (option_map (λ i. suc i) (option_or o (cond c (Some n) None))) ≡ option_or (cond b (Some 0) (option_map (λ i. suc i) o)) (cond c (Some (suc n)) None)
 push_step true o c n = refl
 push_step false (Some i) c n = refl

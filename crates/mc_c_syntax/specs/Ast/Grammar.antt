@@ -23,20 +23,20 @@ use Rattle.mc_c_syntax.specs.Ast.Trees.{AliasedTree, of_base, of_struct, Typedef
 use Rattle.mc_c_syntax.specs.Ast.Trees.{BodyTree, FunctionTree, ItemTree, structure, typedef, function, UnitTree}
 use Rattle.mc_c_syntax.specs.Ast.Names.{Tokens, IsMark, IsWord, IsName, IsNumber, IsAlias, name_of, mark_of, IsNoElse}
 
--- `->` and names, behind a variable or field
+-- `->` and names, after a variable or field
 pub data Fields : Left → Tokens → Left → Tokens → Type 0 where
   none : {l : Left} {tokens : Tokens} → Fields l tokens l tokens
   more : {l all : Left} {arrow name : Token} {tokens rest : Tokens} → IsMark (codes "->") arrow → IsName name
       → Fields (record { name = l.name; fields = l.fields ++ name_of name ∷ [] }) tokens all rest
       → Fields l (arrow ∷ name ∷ tokens) all rest
 
--- a variable, or a field behind it
+-- a variable, or a field after it
 pub data IsLeft : Left → Tokens → Tokens → Type 0 where
   named : {l : Left} {name : Token} {tokens rest : Tokens} → IsName name
       → Fields (record { name = name_of name; fields = [] }) tokens l rest → IsLeft l (name ∷ tokens) rest
 
 mutual
-  -- a number, `NULL`, `input()`, a variable or field, one of these behind `-`, or an expression in parentheses
+  -- a number, `NULL`, `input()`, a variable or field, one of these after `-`, or an expression in parentheses
   pub data IsUnary : Expr → Tokens → Tokens → Type 0 where
     negative : {e : Expr} {token : Token} {tokens rest : Tokens} → IsMark (codes "-") token → IsUnary e tokens rest
         → IsUnary (minus token.place e) (token ∷ tokens) rest
@@ -154,7 +154,7 @@ pub data IsStar : Option Place → Tokens → Tokens → Type 0 where
   star : {token : Token} {tokens : Tokens} → IsMark (codes "*") token → IsStar (Some token.place) (token ∷ tokens) tokens
   no_star : {tokens : Tokens} → IsStar None tokens tokens
 
--- a name, perhaps behind a `*`
+-- a name, perhaps after a `*`
 pub data IsDeclarator : Declarator → Tokens → Tokens → Type 0 where
   declarator : {pointer : Option Place} {name : Token} {tokens rest : Tokens} → IsStar pointer tokens (name ∷ rest)
       → IsName name → IsDeclarator (record { pointer = pointer; name = name_of name }) tokens rest
@@ -349,7 +349,7 @@ mutual
         → IsRight aliases r tokens (semicolon ∷ rest) → IsMark (codes ";") semicolon
         → IsStatement aliases (returns word.place (Some r)) (word ∷ tokens) rest
 
-  -- statements, as many as one likes, behind those that are there
+  -- statements, as many as one likes, after those that are there
   pub data MoreStatements (aliases : List (List ℕ)) : List Stmt → Tokens → List Stmt → Tokens → Type 0 where
     no_statement : {ss : List Stmt} {tokens : Tokens} → MoreStatements aliases ss tokens ss tokens
     next_statement : {s : Stmt} {ss all : List Stmt} {tokens mid rest : Tokens} → IsStatement aliases s tokens mid
@@ -373,7 +373,7 @@ pub data IsField (aliases : List (List ℕ)) : FieldTree → Tokens → Tokens �
       → IsBase aliases base tokens mid → IsDeclarators ds mid (semicolon ∷ rest) → IsMark (codes ";") semicolon
       → IsField aliases (record { base = base; declarators = ds }) tokens rest
 
--- fields, as many as one likes, behind those that are there
+-- fields, as many as one likes, after those that are there
 pub data MoreFields (aliases : List (List ℕ)) : List FieldTree → Tokens → List FieldTree → Tokens → Type 0 where
   no_field : {fs : List FieldTree} {tokens : Tokens} → MoreFields aliases fs tokens fs tokens
   next_field : {f : FieldTree} {fs all : List FieldTree} {tokens mid rest : Tokens} → IsField aliases f tokens mid
@@ -471,7 +471,7 @@ introduced (structure s) = []
 introduced (typedef t) = map (λ d. d.name.text) t.declarators
 introduced (function f) = []
 
--- items up to the end of the text, behind those that are there
+-- items up to the end of the text, after those that are there
 pub data MoreItems : List (List ℕ) → List ItemTree → Tokens → List ItemTree → Type 0 where
   no_item : {aliases : List (List ℕ)} {is : List ItemTree} {end : Token} → end.kind ≡ TokenKind.End → MoreItems aliases is (end ∷ []) is
   next_item : {aliases : List (List ℕ)} {i : ItemTree} {is all : List ItemTree} {tokens mid : Tokens}

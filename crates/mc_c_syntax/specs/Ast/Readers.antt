@@ -14,7 +14,7 @@ pub record Finds {X : Type 0} (now : Tokens → Tokens → X → Type 0) (token 
   pub forward : (tokens rest : Tokens) (y : X) → now (token ∷ tokens) rest y → (rest ≡ token ∷ tokens) × (y ≡ x)
   pub backward : (tokens : Tokens) → now (token ∷ tokens) (token ∷ tokens) x
 
--- the reader is complete behind the token, with this and nothing else
+-- the reader is complete after the token, with this and nothing else
 pub record Closes {X : Type 0} (now : Tokens → Tokens → X → Type 0) (token : Token) (x : X) : Type 0 where
   pub forward : (tokens rest : Tokens) (y : X) → now (token ∷ tokens) rest y → (rest ≡ tokens) × (y ≡ x)
   pub backward : (tokens : Tokens) → now (token ∷ tokens) tokens x
@@ -28,7 +28,7 @@ pub record IsSame {X : Type 0} (now other : Tokens → Tokens → X → Type 0) 
   pub forward : (tokens rest : Tokens) (x : X) → now tokens rest x → other tokens rest x
   pub backward : (tokens rest : Tokens) (x : X) → other tokens rest x → now tokens rest x
 
--- some tokens complete the reader, whatever stands behind them
+-- some tokens complete the reader, whatever stands after them
 pub record CanEnd {X : Type 0} (now : Tokens → Tokens → X → Type 0) : Type 0 where
   pub more : Tokens
   pub tree : X

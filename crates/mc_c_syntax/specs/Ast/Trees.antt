@@ -10,7 +10,7 @@ use Rattle.mc_c_syntax.specs.declared.ast.trees.Argument.{Argument}
 use Rattle.mc_c_syntax.specs.declared.ast.trees.Returned.{Returned}
 use Rattle.mc_c_syntax.specs.declared.ast.trees.Parameter.{Parameter}
 
--- a variable, and the fields behind it
+-- a variable, and the fields after it
 pub record Left : Type 0 where
   pub name : Name
   pub fields : List Name

@@ -30,7 +30,7 @@ word_len text = prefix_len is_word text
 abbrev pub blank_len : List ℕ → ℕ
 blank_len text = prefix_len is_blank text
 
--- the letters, digits and `_` behind those blanks and tabs
+-- the letters, digits and `_` after those blanks and tabs
 abbrev pub next_word : List ℕ → List ℕ
 next_word text = take_while is_word (drop (blank_len text) text)
 
@@ -44,7 +44,7 @@ mark_len text =
 abbrev pub IsInclude : List ℕ → Type 0
 IsInclude text = Begins (codes "#") text × (next_word (drop 1 text) ≡ codes "include")
 
--- a `*/` stands behind so many bytes of the text
+-- a `*/` stands after so many bytes of the text
 abbrev pub Closes : List ℕ → ℕ → Type 0
 Closes text count = Begins (codes "*/") (drop count text)
 

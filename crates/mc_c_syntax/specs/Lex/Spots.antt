@@ -7,7 +7,7 @@ use Rattle.mc_c_syntax.specs.Lex.Bytes.{is_blank}
 abbrev pub start : Spot
 start = record { place = record { line = 1; column = 1 }; at_line_start = true }
 
--- behind one more byte: a line feed begins a line, and any other byte is one column
+-- after one more byte: a line feed begins a line, and any other byte is one column
 abbrev pub step : Spot → ℕ → Spot
 step spot byte =
     if byte == 10
@@ -19,7 +19,7 @@ step spot byte =
           && is_blank byte;
     }
 
--- behind these bytes
+-- after these bytes
 abbrev pub behind : Spot → List ℕ → Spot
 behind spot bytes = fold step spot bytes
 

@@ -4,7 +4,7 @@ use denote.Bor.{Bor}
 use Rattle.indexmap.specs.IndexMap.{IndexMap, get_by}
 use Rattle.mc_c_syntax.specs.Ast.Names.{is_same}
 
--- what is behind references
+-- what is after references
 abbrev pub behind : List (Bor (List ℕ)) → List (List ℕ)
 behind names = map (λ n. n.now) names
 

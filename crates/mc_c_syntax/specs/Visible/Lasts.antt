@@ -13,6 +13,6 @@ abbrev pub last_place : List (List ℕ) → List ℕ → Option ℕ
 last_place [] name = None
 last_place (n ∷ names) name = option_or (option_map (λ i. suc i) (last_place names name)) (cond (is_same n name) (Some 0) None)
 
--- what is behind references
+-- what is after references
 abbrev pub names_held : List (Bor (List ℕ)) → List (List ℕ)
 names_held names = map (λ n. n.now) names

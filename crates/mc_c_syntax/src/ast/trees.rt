@@ -1,6 +1,8 @@
 // The trees of programs: one type for each line of the grammar, with the places of their tokens.
 use mc_base::text::{Place, Text};
-use std::mem;
+use mc_base::trees::Several::{Many, Two};
+use mc_base::trees::{Parts, Several, Tree, drop_tree};
+use std::convert::Infallible;
 
 /// A name, at its place.
 #[derive(Drop)]
@@ -9,7 +11,7 @@ pub struct Name {
     pub place: Place,
 }
 
-/// A variable, or a field behind it: `x`, `x->f`, `x->f->g`.
+/// A variable, or a field after it: `x`, `x->f`, `x->f->g`.
 #[derive(Drop)]
 pub struct LeftValue {
     pub name: Name,
@@ -32,39 +34,38 @@ pub enum Expression {
     Difference(Box<Expression>, Box<Expression>),
 }
 
-/// A loop, so that a tree of any depth needs no more stack than a leaf does, and no memory either. What is at hand is taken apart, and at
-/// most one tree waits. Where a second one has to wait, a new node joins the two, in the box of the part that comes to hand.
 impl Drop for Expression {
-    fn drop(mut self) {
-        let mut waiting = None;
-        loop {
-            match self {
-                Expression::Number(_, _)
-                | Expression::Null(_)
-                | Expression::Input(_)
-                | Expression::Value(_) => match waiting {
-                    Some(next) => {
-                        self = next;
-                        waiting = None;
-                    }
-                    None => return,
-                },
-                Expression::Minus(_, part) | Expression::Parens(_, part) => {
-                    self = Box::into_inner(part);
-                }
-                Expression::Times(mut first, second)
-                | Expression::Plus(mut first, second)
-                | Expression::Difference(mut first, second) => match waiting {
-                    Some(next) => {
-                        self = mem::replace(&mut *first, next);
-                        waiting = Some(Expression::Times(second, first));
-                    }
-                    None => {
-                        self = Box::into_inner(first);
-                        waiting = Some(Box::into_inner(second));
-                    }
-                },
-            }
+    fn drop(self) {
+        drop_tree(self);
+    }
+}
+
+impl Tree for Expression {
+    ghost use Rattle.mc_base.specs.Trees.{Holds};
+    ghost use Rattle.mc_c_syntax.specs.Ast.Sizes.{expression_size};
+
+    type Rest = Infallible;
+
+    ghost size = { expression_size };
+
+    fn parts(self) -> Parts<Expression, Infallible> {
+        match self {
+            Expression::Number(_, _)
+            | Expression::Null(_)
+            | Expression::Input(_)
+            | Expression::Value(_) => Parts::Nothing,
+            Expression::Minus(_, part) | Expression::Parens(_, part) => Parts::One(part),
+            Expression::Times(first, second)
+            | Expression::Plus(first, second)
+            | Expression::Difference(first, second) => Parts::Several(Two(first, second)),
+        }
+    }
+
+    fn holding(trees: Several<Expression, Infallible>) -> Expression
+        ensures { Holds expression_size result trees }
+    {
+        match trees {
+            Two(first, second) => Expression::Times(first, second),
         }
     }
 }
@@ -86,41 +87,41 @@ pub enum Condition {
     Compare(Comparison, Box<Expression>, Box<Expression>),
     /// `!c`, at the `!`: c is a `!` again, a variable or field, `input()` or a condition in parentheses.
     Not(Place, Box<Condition>),
-    /// `(c)`, at the `(`. Only behind a `!` may c be a plain expression.
+    /// `(c)`, at the `(`. Only after a `!` may c be a plain expression.
     Parens(Place, Box<Condition>),
     Both(Box<Condition>, Box<Condition>),
     Either(Box<Condition>, Box<Condition>),
 }
 
-/// A loop, as that of an expression.
 impl Drop for Condition {
-    fn drop(mut self) {
-        let mut waiting = None;
-        loop {
-            match self {
-                Condition::Plain(_) | Condition::Compare(_, _, _) => match waiting {
-                    Some(next) => {
-                        self = next;
-                        waiting = None;
-                    }
-                    None => return,
-                },
-                Condition::Not(_, part) | Condition::Parens(_, part) => {
-                    self = Box::into_inner(part);
-                }
-                Condition::Both(mut first, second) | Condition::Either(mut first, second) => {
-                    match waiting {
-                        Some(next) => {
-                            self = mem::replace(&mut *first, next);
-                            waiting = Some(Condition::Both(second, first));
-                        }
-                        None => {
-                            self = Box::into_inner(first);
-                            waiting = Some(Box::into_inner(second));
-                        }
-                    }
-                }
+    fn drop(self) {
+        drop_tree(self);
+    }
+}
+
+impl Tree for Condition {
+    ghost use Rattle.mc_base.specs.Trees.{Holds};
+    ghost use Rattle.mc_c_syntax.specs.Ast.Sizes.{condition_size};
+
+    type Rest = Infallible;
+
+    ghost size = { condition_size };
+
+    fn parts(self) -> Parts<Condition, Infallible> {
+        match self {
+            Condition::Plain(_) | Condition::Compare(_, _, _) => Parts::Nothing,
+            Condition::Not(_, part) | Condition::Parens(_, part) => Parts::One(part),
+            Condition::Both(first, second) | Condition::Either(first, second) => {
+                Parts::Several(Two(first, second))
             }
+        }
+    }
+
+    fn holding(trees: Several<Condition, Infallible>) -> Condition
+        ensures { Holds condition_size result trees }
+    {
+        match trees {
+            Two(first, second) => Condition::Both(first, second),
         }
     }
 }
@@ -162,7 +163,7 @@ pub struct Cast {
     pub pointer: Option<Place>,
 }
 
-/// `malloc(..)`, at the word `malloc`, perhaps behind a cast.
+/// `malloc(..)`, at the word `malloc`, perhaps after a cast.
 #[derive(Drop)]
 pub struct Malloc {
     pub cast: Option<Cast>,
@@ -256,163 +257,49 @@ pub enum Statement {
     Return(Place, Option<RightSide>),
 }
 
-// The statements in a statement.
-enum Inside {
-    Nothing,
-    One(Box<Statement>),
-    // Those of an `if` with an `else`, with its condition.
-    Two(Place, Condition, Box<Statement>, Box<Statement>),
-    Many(Place, Vec<Statement>),
-}
-
-impl Statement {
-    ghost use Rattle.mc_c_syntax.specs.Ast.Weights.{whole_inside, whole_statement, lone_inside, lone_statement};
-    ghost use Rattle.std.specs.Prelude.{◌≡◌};
-
-    // The statements in it; all else is dropped.
-    fn inside(self) -> Inside
-        ensures whole { whole_inside result ≡ whole_statement self }
-        ensures lone { lone_inside result ≡ lone_statement self }
-    {
-        match self {
-            Statement::Declaration(declaration) => {
-                drop(declaration);
-                Inside::Nothing
-            }
-            Statement::Simple(simple) => {
-                drop(simple);
-                Inside::Nothing
-            }
-            Statement::Free(_, pointer) => {
-                drop(pointer);
-                Inside::Nothing
-            }
-            Statement::Assert(_, condition) => {
-                drop(condition);
-                Inside::Nothing
-            }
-            Statement::Assume(_, condition) => {
-                drop(condition);
-                Inside::Nothing
-            }
-            Statement::AssumeShape(shape) => {
-                drop(shape);
-                Inside::Nothing
-            }
-            Statement::AssertShape(shape) => {
-                drop(shape);
-                Inside::Nothing
-            }
-            Statement::Return(_, value) => {
-                drop(value);
-                Inside::Nothing
-            }
-            Statement::Empty(_) => Inside::Nothing,
-            Statement::AssertEmpty(_) => Inside::Nothing,
-            Statement::Break(_) => Inside::Nothing,
-            Statement::Continue(_) => Inside::Nothing,
-            Statement::If(_, condition, part) => {
-                drop(condition);
-                Inside::One(part)
-            }
-            Statement::While(_, condition, part) => {
-                drop(condition);
-                Inside::One(part)
-            }
-            Statement::Do(_, part, condition) => {
-                drop(condition);
-                Inside::One(part)
-            }
-            Statement::For(head, part) => {
-                drop(head);
-                Inside::One(part)
-            }
-            Statement::IfElse(place, condition, first, second) => {
-                Inside::Two(place, condition, first, second)
-            }
-            Statement::Block(place, parts) => Inside::Many(place, parts),
-        }
-    }
-}
-
-/// A loop, as that of an expression. A block waits with its own statements; where another tree waits already, that one takes the place of
-/// the statement that comes to hand.
 impl Drop for Statement {
-    fn drop(mut self) {
-        let mut waiting = None;
-        loop {
-            match self.inside() {
-                Inside::Nothing => match waiting {
-                    Some(next) => {
-                        self = next;
-                        waiting = None;
-                    }
-                    None => return,
-                },
-                Inside::One(part) => self = Box::into_inner(part),
-                Inside::Two(place, condition, mut first, second) => match waiting {
-                    Some(next) => {
-                        self = mem::replace(&mut *first, next);
-                        waiting = Some(Statement::IfElse(place, condition, second, first));
-                    }
-                    None => {
-                        drop(condition);
-                        self = Box::into_inner(first);
-                        waiting = Some(Box::into_inner(second));
-                    }
-                },
-                Inside::Many(place, parts) => match waiting {
-                    Some(next) => {
-                        let (part, rest) = exchanged(place, parts, next);
-                        self = part;
-                        waiting = rest;
-                    }
-                    None => match taken(place, parts) {
-                        Some((part, rest)) => {
-                            self = part;
-                            waiting = rest;
-                        }
-                        None => return,
-                    },
-                },
-            }
+    fn drop(self) {
+        drop_tree(self);
+    }
+}
+
+impl Tree for Statement {
+    ghost use Rattle.mc_base.specs.Trees.{Holds};
+    ghost use Rattle.mc_c_syntax.specs.Ast.Sizes.{statement_size};
+
+    /// The place of a block.
+    type Rest = Place;
+
+    ghost size = { statement_size };
+
+    fn parts(self) -> Parts<Statement, Place> {
+        match self {
+            Statement::Declaration(_) | Statement::Simple(_) => Parts::Nothing,
+            Statement::Free(_, _) | Statement::Return(_, _) => Parts::Nothing,
+            Statement::Assert(_, _) | Statement::Assume(_, _) => Parts::Nothing,
+            Statement::AssumeShape(_) | Statement::AssertShape(_) => Parts::Nothing,
+            Statement::Empty(_) | Statement::AssertEmpty(_) => Parts::Nothing,
+            Statement::Break(_) | Statement::Continue(_) => Parts::Nothing,
+            Statement::If(_, _condition, part)
+            | Statement::While(_, _condition, part)
+            | Statement::Do(_, part, _condition) => Parts::One(part),
+            Statement::For(_head, part) => Parts::One(part),
+            Statement::IfElse(_, _condition, first, second) => Parts::Several(Two(first, second)),
+            Statement::Block(place, statements) => Parts::Several(Many(place, statements)),
         }
     }
-}
 
-ghost use Rattle.mc_c_syntax.specs.Ast.Weights.{left_of_statements, lone_statement, whole_statement};
-ghost use Rattle.mc_c_syntax.specs.declared.ast.trees.Statement.TheVariants as Statement;
-ghost use Rattle.std.specs.Prelude.{◌<◌, ◌+◌, IfSome};
-
-// The first statement of a block, and the block with another in its place.
-fn exchanged(
-    place: Place,
-    mut parts: Vec<Statement>,
-    next: Statement,
-) -> (Statement, Option<Statement>)
-    ensures { left_of_statements result.0 result.1 < whole_statement (Statement.Block place parts) + lone_statement next }
-{
-    if parts.is_empty() {
-        parts.destroy_empty();
-        return (next, None);
-    }
-    let first = mem::replace(&mut parts[0], next);
-    (first, Some(Statement::Block(place, parts)))
-}
-
-// The last statement of a block, and the block of those before it.
-fn taken(place: Place, mut parts: Vec<Statement>) -> Option<(Statement, Option<Statement>)>
-    ensures { IfSome result (λ both. left_of_statements both.0 both.1 < lone_statement (Statement.Block place parts)) }
-{
-    let Some(last) = parts.pop() else {
-        parts.destroy_empty();
-        return None;
-    };
-    if parts.is_empty() {
-        parts.destroy_empty();
-        Some((last, None))
-    } else {
-        Some((last, Some(Statement::Block(place, parts))))
+    fn holding(trees: Several<Statement, Place>) -> Statement
+        ensures { Holds statement_size result trees }
+    {
+        match trees {
+            Two(first, second) => {
+                let place = Place { line: 0, column: 0 };
+                let condition = Condition::Plain(Expression::Null(place));
+                Statement::IfElse(place, condition, first, second)
+            }
+            Many(place, statements) => Statement::Block(place, statements),
+        }
     }
 }
 

@@ -15,7 +15,7 @@ pub const MAX_BYTES: usize = 4294967294;
 ///
 /// Blanks, tabs, carriage returns, line feeds and comments of both forms part tokens. So does a line whose first
 /// byte, blanks and tabs aside, is `#` and whose next word is `include`: it is skipped up to its line feed, and opens
-/// no comment. The bytes of a comment count as bytes of their lines, so a `#` behind one is a mark.
+/// no comment. The bytes of a comment count as bytes of their lines, so a `#` after one is a mark.
 pub fn lex(alloc: Global, bytes: &[u8]) -> Result<Vec<Token>, LexFault>
     requires { length bytes.now ≤ MAX_BYTES }
     ensures reading { MatchResult result (λ tokens. Lexes bytes.now (Ok tokens.items))

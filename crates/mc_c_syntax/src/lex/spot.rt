@@ -45,7 +45,7 @@ fn step(spot: Spot, byte: u8) -> Spot
     }
 }
 
-/// The spot behind these bytes.
+/// The spot after these bytes.
 pub fn behind(mut spot: Spot, bytes: &[u8]) -> Spot
     requires { HasRoom spot (length bytes.now) }
     ensures { result ≡ behind spot bytes.now }

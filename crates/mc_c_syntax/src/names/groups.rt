@@ -36,7 +36,7 @@ pub struct Groups<'a, T: HasName> {
     alloc: Global,
 }
 
-/// Lets go of its parts. What holds one calls this.
+/// Drops its parts. What holds one calls this.
 impl<T: HasName> Drop for Groups<'_, T> {
     fn drop(self) {
         let Groups {

@@ -13,7 +13,7 @@ pub struct Names<'a> {
     firsts: IndexMap<&'a [u8], usize>,
 }
 
-/// Lets go of its parts. What holds one calls this.
+/// Drops its parts. What holds one calls this.
 impl Drop for Names<'_> {
     fn drop(self) {
         let Names { names, firsts } = self;

@@ -40,7 +40,7 @@ pub struct Table<'a, T: HasName> {
     names: Names<'a>,
 }
 
-/// Lets go of its parts. What holds one calls this.
+/// Drops its parts. What holds one calls this.
 impl<T: HasName> Drop for Table<'_, T> {
     fn drop(self) {
         let Table { items, names } = self;

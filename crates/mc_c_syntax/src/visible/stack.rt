@@ -34,7 +34,7 @@ pub struct NameStack<'a> {
     alloc: Global,
 }
 
-/// Lets go of its parts. What holds one calls this.
+/// Drops its parts. What holds one calls this.
 impl Drop for NameStack<'_> {
     fn drop(self) {
         let NameStack {
@@ -166,7 +166,6 @@ impl<'a> NameStack<'a> {
     {
         let above = self.take_above(place)?;
         self.push(name)?;
-        self.push_all(above)?;
-        Ok(())
+        self.push_all(above)
     }
 }

@@ -8,7 +8,7 @@ use Rattle.mc_pure.specs.Nodes.{RiseFrom}
 use Rattle.mc_pure.specs.Pure.{Kinds, kind_of}
 use Rattle.mc_state.specs.Lists.{on_some}
 
--- numbers that differ are told apart
+-- numbers that differ are known apart
 apart : (b : Bool) → (b ≡ true → ⊥) → b ≡ false
 apart true h = absurd (h refl)
 apart false h = refl

@@ -64,7 +64,7 @@ fn have_kind_images(s: &State, images: &[NodeId], target: &State, nodes: &[NodeI
     true
 }
 
-/// The nodes behind the first.
+/// The nodes after the first.
 fn behind_first(nodes: &[NodeId]) -> &[NodeId]
     ensures { result.now ≡ drop 1 nodes.now }
 {

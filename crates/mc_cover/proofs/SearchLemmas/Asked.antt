@@ -29,7 +29,7 @@ module _ (s : State) (p : Pure) (follows : (f : Atom) → Follows p f ↔ Follow
   derived f =
       ((λ d. elim d [ inl x ↦ inl ((follows f).0 x) | inr x ↦ inr (is_false.0 x) ]), (λ d. elim d [ inl x ↦ inl ((follows f).1 x) | inr x ↦ inr (is_false.1 x) ]))
 
-  -- a test of what is derived from the one tells what is derived in the other
+  -- a test of what is entailed from the one tells what is entailed in the other
   pub is_tell : (know : Test) → TellsDerived p know → Tells know s
   is_tell know t f = ((λ e. (derived f).0 ((t f).0 e)), (λ d. (t f).1 ((derived f).1 d)))
 
@@ -48,7 +48,7 @@ module _ (s : State) (p : Pure) (follows : (f : Atom) → Follows p f ↔ Follow
       → (IsTrue r ↔ Derived p (In a.node (lo -ℤ a.add) (hi -ℤ a.add))) → r ≡ know (In t.node (lo -ℤ t.add) (hi -ℤ t.add))
   told_within know tells t a lo hi r n1 a1 h = rw (n1, a1) at (told know tells (In a.node (lo -ℤ a.add) (hi -ℤ a.add)) r h)
 
--- where there is such a test, the one that is known to be one tells what is derived
+-- where there is such a test, the one that is known to be one tells what is entailed
 pub settled : (s : State) → ((k : Test) × Tells k s) → (know : Test) → ∥ Tells know s ∥₁ → Tells know s
 settled s k know t = subst (λ x. Tells x s) (∥∥₁_elim t (→_set Bool-set k.0 know) (λ own. same_tests k.0 know s k.1 own)) k.1
 

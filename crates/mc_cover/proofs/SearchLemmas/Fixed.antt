@@ -1,7 +1,6 @@
 -- Names that atoms introduce, and how far their terms are.
-use Rattle.std.proofs.Common.{◌≡◌, ◌<◌, ◌+◌, ℕ, zero, suc, ℤ, Bool, true, false, ◌&&◌, Option, Some, None, List, [], ◌∷◌, ◌++◌, length, drop, get_or, refl, sym, ◌∙◌, ap, arith, append-nil, append_assoc}
+use Rattle.std.proofs.Common.{◌≡◌, ◌<◌, ◌+◌, ℕ, zero, suc, Bool, true, false, ◌&&◌, Option, Some, None, List, [], ◌∷◌, ◌++◌, length, drop, get_or, refl, ◌∙◌, ap, arith, append_assoc}
 use Rattle.std.proofs.Math.Seq.{drop-cons}
-use Rattle.std.specs.Prelude.{◌+ℤ◌}
 use Rattle.std.specs.List.{AllByRecursion}
 use Rattle.std.proofs.lemmas.Bool.{and_parts}
 use Rattle.mc_flow.specs.declared.defs.rules.DefAtom.{DefAtom}
@@ -12,20 +11,11 @@ use Rattle.std.proofs.lemmas.List.{drop_more}
 use Rattle.mc_state.specs.Known.{Test}
 use Rattle.mc_cover.specs.Terms.{with_fixed, atoms_known}
 use Rattle.mc_cover.specs.Search.Terms.{is_near, all_near, IntroducesFar, AddsSmall}
+use Rattle.mc_cover.proofs.Fixed.{fixed_front}
 
 and_no : (a b : Bool) → b ≡ false → (a && b) ≡ false
 and_no true b e = e
 and_no false b e = refl
-
--- the fold only adds names
-fixed_front : (p : List Term) (atoms : List DefAtom) → (rest : List Term) × (with_fixed p atoms ≡ p ++ rest)
-fixed_front p [] = ([], sym (append-nil p))
-fixed_front p (Eq left base add true ∷ atoms) =
-    let r = fixed_front (p ++ plus (base_term p base) add ∷ []) atoms in
-    (plus (base_term p base) add ∷ r.0, r.1 ∙ append_assoc p (plus (base_term p base) add ∷ []) r.0)
-fixed_front p (Eq left base add false ∷ atoms) = fixed_front p atoms
-fixed_front p (Ne left base add ∷ atoms) = fixed_front p atoms
-fixed_front p (In left lo hi ∷ atoms) = fixed_front p atoms
 
 far_list : (p rest : List Term) (t : Term) → is_near t.add ≡ false → all_near (p ++ t ∷ rest) ≡ false
 far_list [] rest t far = ap (λ b. b && all_near rest) far

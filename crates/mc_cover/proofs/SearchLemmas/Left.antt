@@ -14,11 +14,11 @@ use Rattle.mc_cover.specs.Marks.{ids_of}
 use Rattle.mc_cover.specs.Near.{starts_at, near}
 use Rattle.mc_cover.specs.Search.Setting.{is_unused}
 
-yes_or_no : (b : Bool) → (b ≡ true) ⊎ (b ≡ false)
+pub yes_or_no : (b : Bool) → (b ≡ true) ⊎ (b ≡ false)
 yes_or_no true = inl refl
 yes_or_no false = inr refl
 
-no_yes : (b : Bool) → (b ≡ true → ⊥) → b ≡ false
+pub no_yes : (b : Bool) → (b ≡ true → ⊥) → b ≡ false
 no_yes true h = absurd (h refl)
 no_yes false h = refl
 

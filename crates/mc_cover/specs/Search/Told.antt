@@ -1,4 +1,4 @@
--- The one test that tells what is derived in a state.
+-- The one test that tells what is entailed in a state.
 use Rattle.std.specs.Prelude.{◌≡◌, ◌↔◌, Bool, true, false}
 use mathlib.Core.Path.{refl, sym}
 use mathlib.Core.Bool.{Bool-set}
@@ -8,7 +8,7 @@ use mathlib.Core.Path.{fun_ext}
 use Rattle.mc_state.specs.State.{State}
 use Rattle.mc_state.specs.Known.{Test, Tells}
 
--- a test, of which it is known that it tells what is derived in the state
+-- a test, of which it is known that it tells what is entailed in the state
 abbrev pub IsTold : State → Type 0
 IsTold s = (know : Test) × ∥ Tells know s ∥₁
 
@@ -17,7 +17,7 @@ same_test true b f g = sym (f refl)
 same_test false true f g = g refl
 same_test false false f g = refl
 
--- tests that tell what is derived are one
+-- tests that tell what is entailed are one
 pub same_tests : (know other : Test) (s : State) → Tells know s → Tells other s → know ≡ other
 same_tests know other s one two = fun_ext (λ f. same_test (know f) (other f) (λ e. (two f).1 ((one f).0 e)) (λ e. (one f).1 ((two f).0 e)))
 

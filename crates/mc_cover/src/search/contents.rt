@@ -27,7 +27,7 @@ fn push_fields(names: &mut Vec<Term>, fields: &[Option<NodeId>]) -> Result<bool,
     Ok(true)
 }
 
-// Whether the structs are one, and the terms derived equal.
+// Whether the structs are one, and the terms entailed equal.
 fn is_there(state: &State, at: &Term, own: NodeId, shape: StructId, other: StructId) -> bool
     ensures { (know : Test) → Tells know state.now → result ≡ (other.0 == shape.0 && equal_terms know at.now (plain own)) }
 {

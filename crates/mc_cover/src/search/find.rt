@@ -80,8 +80,7 @@ pub fn cover(
         args: items_of(alloc, args)?,
         stop: None,
     };
-    let found = find(alloc, state, defs, used, goal)?;
-    Ok(found)
+    find(alloc, state, defs, used, goal)
 }
 
 /// The first segment cover of a predicate, from a term with arguments to another with others, in the same way.
@@ -110,6 +109,5 @@ pub fn seg_cover(
         args: items_of(alloc, args)?,
         stop: Some((end, items_of(alloc, ends)?)),
     };
-    let found = find(alloc, state, defs, used, goal)?;
-    Ok(found)
+    find(alloc, state, defs, used, goal)
 }

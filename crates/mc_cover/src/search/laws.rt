@@ -13,7 +13,7 @@ ghost use Rattle.mc_cover.specs.Search.Terms.{all_near, AddsSmall};
 
 use mc_symbolic::State;
 
-/// A state has a test that tells what is derived of it.
+/// A state has a test that tells what is entailed of it.
 pub fn is_told(state: &State)
     ensures { (know : Test) × Tells know state.now }
 {

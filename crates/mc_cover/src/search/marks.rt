@@ -57,8 +57,7 @@ pub fn marks_of(
         ≡ near_marks (setting know defs.now state.now used.now) goal.now) }
 {
     let ids = near_ids(alloc, state, used, &goal.at)?;
-    let all = marks_on(alloc, &ids, def_of(defs, goal.pred))?;
-    Ok(all)
+    marks_on(alloc, &ids, def_of(defs, goal.pred))
 }
 
 // The number of an edge that may be there.
@@ -105,8 +104,7 @@ fn ind_fits(
     if goal.stop.is_some() {
         return Ok(false);
     }
-    let is = is_ind(alloc, state, goal, free_edge(state, used, id))?;
-    Ok(is)
+    is_ind(alloc, state, goal, free_edge(state, used, id))
 }
 
 // Pushes what the rule at a place leaves. None where the goal has a stop, or the rule does not fit.

@@ -96,7 +96,7 @@ fn sum(names: &[Term], base: Option<u64>, add: i64) -> Term
     moved_near(&from, add)
 }
 
-// Whether an atom is derived of the terms of names.
+// Whether an atom is entailed of the terms of names.
 fn is_known(state: &State, names: &[Term], atom: DefAtom) -> bool
     requires near { all_near names.now ≡ true }
     requires small { AddsSmall atom }

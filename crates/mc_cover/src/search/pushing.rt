@@ -90,7 +90,7 @@ fn calls_before(calls: &[Call], place: usize) -> &[Call]
     &calls[..place]
 }
 
-// The calls behind a place.
+// The calls after a place.
 fn calls_behind(calls: &[Call], place: usize) -> &[Call]
     requires { place < length calls.now }
     ensures { result.now ≡ drop (place + 1) calls.now }
@@ -241,14 +241,13 @@ pub fn is_ind(
         None => Ok(false),
         Some(Edge::Block { .. }) => Ok(false),
         Some(Edge::Ind { at, pred, args }) => {
-            let is = is_summary(alloc, state, goal, *pred, *at, args.as_slice())?;
-            Ok(is)
+            is_summary(alloc, state, goal, *pred, *at, args.as_slice())
         }
         Some(Edge::Seg { .. }) => Ok(false),
     }
 }
 
-// Pushes what is left behind a Seg to a node with arguments.
+// Pushes what is left after a Seg to a node with arguments.
 fn push_behind(
     alloc: Global,
     cells: &mut Vec<Cell<Goal>>,
@@ -272,11 +271,10 @@ fn push_behind(
         args: Items::of(args),
         stop,
     };
-    let top = push_goal(cells, behind, rest)?;
-    Ok(top)
+    push_goal(cells, behind, rest)
 }
 
-/// Pushes what is left behind an edge that is a Seg of the goal. None where it is no such edge.
+/// Pushes what is left after an edge that is a Seg of the goal. None where it is no such edge.
 pub fn push_seg(
     alloc: Global,
     state: &State,

@@ -12,7 +12,7 @@ use mc_shape_search::tries::{Cell, Problem};
 use mc_symbolic::State;
 use std::alloc::Global;
 
-/// A search in a state that is not false, where some edges are used. A ghost field has the test of what is derived.
+/// A search in a state that is not false, where some edges are used. A ghost field has the test of what is entailed.
 #[derive(Drop)]
 pub struct Search<'a> {
     pub state: &'a State,

@@ -1,4 +1,4 @@
-// What is derived of terms.
+// What is entailed of terms.
 ghost use Rattle.std.specs.Prelude.{◌≡◌, ◌-ℤ◌, map};
 ghost use Rattle.mc_base.specs.declared.plain.Atom.TheVariants.{Ne, In};
 ghost use Rattle.mc_state.specs.Terms.{plain};
@@ -27,7 +27,7 @@ pub fn plain(node: NodeId) -> Term
     Term { node, add: 0 }
 }
 
-/// Whether the terms are derived to be equal.
+/// Whether the terms are entailed to be equal.
 pub fn are_equal(state: &State, left: &Term, right: &Term) -> bool
     ensures { (know : Test) → Tells know state.now → result ≡ equal_terms know left.now right.now }
 {
@@ -37,7 +37,7 @@ pub fn are_equal(state: &State, left: &Term, right: &Term) -> bool
     pure.are_equal(&first, &second)
 }
 
-/// Whether the terms are derived to differ.
+/// Whether the terms are entailed to differ.
 pub fn are_different(state: &State, left: &Term, right: &Term) -> bool
     ensures { (know : Test) → Tells know state.now → result ≡ know (Ne left.now.node right.now.node (right.now.add -ℤ left.now.add)) }
 {
@@ -47,7 +47,7 @@ pub fn are_different(state: &State, left: &Term, right: &Term) -> bool
     pure.are_different(&first, &second)
 }
 
-/// Whether the term is derived to lie from `lo` to `hi`.
+/// Whether the term is entailed to lie from `lo` to `hi`.
 pub fn lies_between(state: &State, term: &Term, lo: i64, hi: i64) -> bool
     ensures { (know : Test) → Tells know state.now → result ≡ know (In term.now.node (lo -ℤ term.now.add) (hi -ℤ term.now.add)) }
 {
@@ -56,7 +56,7 @@ pub fn lies_between(state: &State, term: &Term, lo: i64, hi: i64) -> bool
     pure.lies_in(&asked, lo, hi)
 }
 
-// Whether the term is derived to lie in the range of a kind.
+// Whether the term is entailed to lie in the range of a kind.
 fn lies_in(state: &State, kind: Kind, term: &Term) -> bool
     ensures { (know : Test) → Tells know state.now → result ≡ lies_in know kind term.now }
 {
@@ -82,7 +82,7 @@ pub fn all_lie_in(state: &State, kinds: &[Kind], terms: &[Term]) -> bool
     true
 }
 
-/// Whether the terms of two lists are derived equal one by one, and the lists are of one length.
+/// Whether the terms of two lists are entailed equal one by one, and the lists are of one length.
 #[tactic(auto, using(mc_state::proofs::ListLemmas::all_both_steps))]
 pub fn are_all_equal(state: &State, left: &[Term], right: &[Term]) -> bool
     ensures { (know : Test) → Tells know state.now → result ≡ all_equal_terms know left.now right.now }

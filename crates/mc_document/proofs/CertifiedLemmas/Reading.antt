@@ -22,7 +22,7 @@ use Rattle.mc_state.specs.declared.line.Form.TheVariants.{Certificate}
 use Rattle.mc_state.specs.declared.line.Version.TheVariants.{One}
 use Rattle.mc_state.specs.declared.raw_state.RawState.{RawState}
 
--- a judge reads the lines behind a certificate's header, and the document then stands here
+-- a judge reads the lines after a certificate's header, and the document then stands here
 pub record IsReadTo (k : Knowledge) (well : RawState → Bool) (flow : Flow) (defs : List Def) (lines : List Line)
     (p : Position) : Type 0 where
   pub last : Reading
@@ -43,7 +43,7 @@ append_none : (lines : List Line) → lines ++ [] ≡ lines
 append_none [] = refl
 append_none (l ∷ lines) = ap (λ (ls : List Line). l ∷ ls) (append_none lines)
 
--- the line at a number, with those behind it
+-- the line at a number, with those after it
 rest_at : (lines : List Line) (i : ℕ) (l : Line) → i < length lines → l ≡ get_or lines i l → drop i lines ≡ l ∷ drop (i + 1) lines
 rest_at lines i l within is =
     drop-cons lines i l within ∙ ap (λ (x : Line). x ∷ drop (suc i) lines) (sym is) ∙ ap (λ (n : ℕ). l ∷ drop n lines) (sym (add-one i))
@@ -52,7 +52,7 @@ drop_none : (i : ℕ) → drop {A = Line} i [] ≡ []
 drop_none zero = refl
 drop_none (suc i) = refl
 
--- behind the last line there is none
+-- after the last line there is none
 none_behind : (lines : List Line) (i : ℕ) → length lines ≤ i → drop i lines ≡ []
 none_behind [] i e = drop_none i
 none_behind (l ∷ lines) zero e = absurd (omega arith)

@@ -54,7 +54,7 @@ all_has_none (b ∷ bs) l = elim (same_or b 10) [
   | inr ne ↦ (let z = len_later b bs ne in first_has b bs ne (all_has_none bs (omega arith)))
 ]
 
--- else one stands behind it
+-- else one stands after it
 pub cut_at : (bytes : List ℕ) → line_len bytes < length bytes → bytes ≡ take (line_len bytes) bytes ++ (10 ∷ drop (suc (line_len bytes)) bytes)
 cut_at [] l = absurd (omega arith)
 cut_at (b ∷ bs) l = elim (same_or b 10) [
@@ -64,7 +64,7 @@ cut_at (b ∷ bs) l = elim (same_or b 10) [
       (ap (λ (zs : List ℕ). b ∷ zs) (cut_at bs (omega arith))))
 ]
 
--- the bytes before the first line feed, and those behind it
+-- the bytes before the first line feed, and those after it
 pub whole : (bytes : List ℕ) (n : ℕ) → n ≡ line_len bytes → n < length bytes → HasNoFeed (take n bytes) × (bytes ≡ take n bytes ++ (10 ∷ take (length bytes - (n + 1)) (drop (n + 1) bytes)))
 whole bytes n e l = (
   subst (λ (m : ℕ). HasNoFeed (take m bytes)) (sym e) (before_has_none bytes),

@@ -50,7 +50,7 @@ spell_same once (t ∷ texts) (x ∷ a) (y ∷ b) p q =
     let rest : a ≡ b = spell_same once texts a b p.1 q.1 in
     cc
 
--- the lines before a text, its own, and those behind it
+-- the lines before a text, its own, and those after it
 record Split (before : List (List ℕ)) (text : List ℕ) (lines : List Line) : Type 0 where
   pub first : List Line
   pub own : Line
@@ -79,7 +79,7 @@ spell_nothing : (lines : List Line) → SpellAll [] lines → lines ≡ []
 spell_nothing [] all = refl
 spell_nothing (x ∷ lines) all = absurd all
 
--- two headers with what is behind them
+-- two headers with what is after them
 same_form : (f g : Form) (a b : List Line) → Header One f ∷ a ≡ Header One g ∷ b → f ≡ g
 same_form f g a b e = cc e
 
@@ -101,7 +101,7 @@ module _ (k : Knowledge) (well : RawState → Bool) (flow : Flow) (defs : List D
   goes_on [] r i still = absurd i.spelled
   goes_on (t ∷ texts) r i still = (r, i, still)
 
-  -- a premise that is unmet where a document stands is so behind its texts
+  -- a premise that is unmet where a document stands is so after its texts
   pub unmet_behind : (texts : List (List ℕ)) (r : Reading) (l : Line) (premise : ℕ) → IsReading k well flow defs texts r → r.stage ≢ finished
       → reading_line k well flow defs l r ≡ Err premise → IsUnmetBehind k well flow defs texts l premise
   unmet_behind [] r l premise i still e = absurd i.spelled
@@ -136,7 +136,7 @@ module _ (k : Knowledge) (well : RawState → Bool) (flow : Flow) (defs : List D
       let both = spell_same once texts (Header One i.form ∷ i.lines) (Header One j.form ∷ j.lines) i.spelled j.spelled in
       same_read i.form j.form i.lines j.lines r s (same_form i.form j.form i.lines j.lines both) (same_rest i.form j.form i.lines j.lines both) i.read j.read
 
-  -- ---- no line behind the end
+  -- ---- no line after the end
 
   ended_at : (l : Line) (stage : Stage) (r : Reading) → stage ≡ finished → r.stage ≡ stage → reading_line k well flow defs l r ≡ Err 1
   ended_at l stage r e is = at l (is ∙ e)

@@ -35,7 +35,7 @@ cut_more text texts rest bytes c none = record {
   no_feed = both_have rest bytes c.no_feed none;
 }
 
--- and with one behind them the open line is whole
+-- and with one after them the open line is whole
 pub cut_line : (text : List ℕ) (texts : List (List ℕ)) (rest bytes : List ℕ) → IsCut text texts rest → HasNoFeed bytes
     → IsCut (text ++ (bytes ++ (10 ∷ []))) (texts ++ (rest ++ bytes) ∷ []) []
 cut_line text texts rest bytes c none = record {
@@ -75,7 +75,7 @@ lines_closed text texts rest c e =
     ap lines_of c.spelled ∙ lines_feeds texts rest c.whole
     ∙ ap (λ (bs : List ℕ). texts ++ lines_of bs) e ∙ append_none texts
 
--- else the open one stands behind them
+-- else the open one stands after them
 pub lines_open : (text : List ℕ) (texts : List (List ℕ)) (rest : List ℕ) → IsCut text texts rest → rest ≢ [] → lines_of text ≡ texts ++ rest ∷ []
 lines_open text texts [] c some = absurd (some refl)
 lines_open text texts (b ∷ rest) c some =

@@ -1,4 +1,4 @@
--- What a judge of documents has heard.
+-- What a judge of documents has read.
 use Rattle.std.proofs.Common.{◌≡◌, ◌≢◌, ◌+◌, ℕ, suc, List, [], ◌∷◌, ◌++◌, Bool, true, false, nat_eq, length, refl, sym, ◌∙◌, ap, subst, arith, append_assoc}
 use Rattle.std.specs.Prelude.{Result, Ok, Err, OnOk, ◌==◌}
 use Rattle.std.specs.declared.alloc.AllocError.{AllocError}
@@ -52,7 +52,7 @@ valid_same old new same valid =
 pub stays_then : (old mid new : Judge) → StaysFor old mid → StaysFor mid new → StaysFor old new
 stays_then old mid new p q = (q.0 ∙ p.0, q.1 ∙ p.1)
 
--- what is known of the stages of a judge that heard the end of a line
+-- what is known of the stages of a judge that read the end of a line
 pub record IsClosing (old new : Judge) (bytes : List ℕ) : Type 0 where
   pub same : StaysFor old new
   pub counted : new.lines ≡ old.lines + 1
@@ -113,7 +113,7 @@ quiet_heard judge bytes none e ne k well text right heard = record {
   held = holds_anything judge.stage (heard.rest ++ bytes) judge.open.items e ne;
 }
 
--- ---- pieces, one behind the other
+-- ---- pieces, one after the other
 
 hears_nothing : (judge : Judge) → Hears [] judge judge
 hears_nothing judge k well text right heard = subst (λ (t : List ℕ). HasHeard k well t judge) (sym (append_none text)) heard
@@ -123,7 +123,7 @@ hears_then a b old mid new first same second k well text judge heard =
     subst (λ (t : List ℕ). HasHeard k well t new) (append_assoc text a b)
     (second k well (text ++ a) (judge_same k well old mid same judge) (first k well text judge heard))
 
--- what of a piece is heard so far
+-- what of a piece is read so far
 pub record Fed (piece rest : List ℕ) (old new : Judge) : Type 0 where
   pub before : List ℕ
   pub spelled : piece ≡ before ++ rest

@@ -41,7 +41,7 @@ holds_more (Ended c) rest held bytes h = ap (λ (bs : List ℕ). bs ++ bytes) h
 holds_more (Refused cause) rest held bytes h = tt
 holds_more Spent rest held bytes h = absurd h
 
--- behind a whole line nothing is held
+-- after a whole line nothing is held
 pub holds_nothing : (stage : Stage) → stage ≢ Spent → Holds stage [] []
 holds_nothing Unbegun ne = refl
 holds_nothing (Open p) ne = refl

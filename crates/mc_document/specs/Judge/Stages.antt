@@ -1,4 +1,4 @@
--- Where a judge of documents stands, and what it has heard.
+-- Where a judge of documents stands, and what it has read.
 use Rattle.std.specs.Prelude.{◌≡◌, ◌≢◌, ◌++◌, ℕ, Bool, true, false, List, [], ◌∷◌, length}
 use Rattle.mc_flow.specs.declared.defs.rules.Def.{Def}
 use Rattle.mc_flow.specs.declared.graph.Flow.{Flow}
@@ -13,7 +13,7 @@ use Rattle.mc_document.specs.declared.judge.stage.Stage.TheVariants.{Unbegun, Op
 use Rattle.mc_document.specs.Judge.Cuts.{IsCut}
 use Rattle.mc_document.specs.Judge.Verdicts.{IsReading, IsRefusal}
 
--- behind these lines a judge stands here; where memory was missing nothing is known
+-- after these lines a judge stands here; where memory was missing nothing is known
 abbrev pub IsAt : Knowledge → (RawState → Bool) → Flow → List Def → List (List ℕ) → Stage → Type 0
 IsAt k well flow defs texts Unbegun = texts ≡ []
 IsAt k well flow defs texts (Open p) =
@@ -50,7 +50,7 @@ needs_more Spent = false
 abbrev pub StaysFor : (old new : Judge) → Type 0
 StaysFor old new = (new.flow.now ≡ old.flow.now) × (new.defs.now ≡ old.defs.now)
 
--- the judge has heard the text: its whole lines are judged, and the open one is held
+-- the judge has read the text: its whole lines are judged, and the open one is held
 pub record HasHeard (k : Knowledge) (well : RawState → Bool) (text : List ℕ) (judge : Judge) : Type 0 where
   pub texts : List (List ℕ)
   pub rest : List ℕ
@@ -59,7 +59,7 @@ pub record HasHeard (k : Knowledge) (well : RawState → Bool) (text : List ℕ)
   pub counted : judge.lines ≡ length texts
   pub held : Holds judge.stage rest judge.open.items
 
--- whatever the judge had heard, it has heard these bytes behind it
+-- whatever the judge had read, it has read these bytes after it
 abbrev pub Hears : List ℕ → (old new : Judge) → Type 0
 Hears piece old new =
     (k : Knowledge) (well : RawState → Bool) (text : List ℕ)

@@ -45,7 +45,7 @@ GoesOn k well flow defs [] = Unit {0}
 GoesOn k well flow defs (text ∷ texts) =
     (r : Reading) × IsReading k well flow defs (text ∷ texts) r × (r.stage ≢ finished)
 
--- behind the texts this is the line's first unmet premise: at the beginning the first one of whatever is no header
+-- after the texts this is the line's first unmet premise: at the beginning the first one of whatever is no header
 abbrev pub IsUnmetBehind : Knowledge → (RawState → Bool) → Flow → List Def → List (List ℕ) → Line → ℕ → Type 0
 IsUnmetBehind k well flow defs [] line premise =
     ((version : Version) (form : Form) → line ≢ Header version form) × (premise ≡ 1)
@@ -57,7 +57,7 @@ IsUnmetBehind k well flow defs (text ∷ texts) line premise =
 abbrev pub IsNamed : Line → List ℕ → Type 0
 IsNamed line name = (entries : List Data) × (data_of line ≡ named_data name entries)
 
--- the text, behind others, is refused: it is no line, no instance, or stands after the end
+-- the text, after others, is refused: it is no line, no instance, or stands after the end
 abbrev pub IsRefusedBehind : Knowledge → (RawState → Bool) → Flow → List Def → List (List ℕ) → List ℕ → Refusal → Type 0
 IsRefusedBehind k well flow defs before text (refusal.Line number fault) =
     (number ≡ suc (length before)) × GoesOn k well flow defs before × ReadsAs text (Err fault) × (fault ≢ NoMemory)
@@ -69,7 +69,7 @@ IsRefusedBehind k well flow defs before text (refusal.AfterEnd number) =
 IsRefusedBehind k well flow defs before text refusal.EndsEarly = ⊥
 IsRefusedBehind k well flow defs before text refusal.NoAlarm = ⊥
 
--- one of the texts is refused behind those before it
+-- one of the texts is refused after those before it
 pub record IsRefusal (k : Knowledge) (well : RawState → Bool) (flow : Flow) (defs : List Def) (texts : List (List ℕ))
     (cause : Refusal) : Type 0 where
   pub before : List (List ℕ)

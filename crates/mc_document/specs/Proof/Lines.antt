@@ -86,7 +86,7 @@ heading_at well p raw q =
     (need 4 (well raw)
     (Ok (record q { stage = heading; heads = q.heads ++ (p, state_of raw) ∷ [] }))))
 
--- which written states are well formed is told rightly
+-- which written states are well formed is known rightly
 abbrev pub TellsFormed : (RawState → Bool) → Flow → List Def → Type 0
 TellsFormed well flow defs = (raw : RawState) → (well raw ≡ true) ↔ IsWellFormedRaw defs flow.vars flow.structs.list raw
 
@@ -117,7 +117,7 @@ abbrev pub marks : Line → ℕ
 marks line.C1 = 1
 marks other = 0
 
--- what comes of a line at the first of some branches, with the others behind it
+-- what comes of a line at the first of some branches, with the others after it
 abbrev pub advanced : Knowledge → Flow → List Def → Setting → Line → List Path → Judged (List Path)
 advanced k flow defs g l branches =
     have 1 (first_branch branches) (λ b. then_give (λ next. next ++ b.1) (judged_line k flow defs g l b.0))

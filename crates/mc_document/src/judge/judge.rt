@@ -34,11 +34,11 @@ pub struct Judge<'f> {
     stage: Stage<'f>,
     // How many lines are whole.
     lines: u64,
-    // The bytes behind the last line feed.
+    // The bytes after the last line feed.
     open: Vec<u8>,
 }
 
-/// Lets go of its parts. What holds one calls this.
+/// Drops its parts. What holds one calls this.
 impl Drop for Judge<'_> {
     fn drop(self) {
         let Judge {
@@ -55,7 +55,7 @@ impl Drop for Judge<'_> {
 }
 
 impl<'f> Judge<'f> {
-    /// A judge that has heard nothing.
+    /// A judge that has read nothing.
     pub fn new(alloc: Global, flow: &'f Flow, defs: &'f Defs) -> Judge<'f>
         requires { IsValid flow.now defs.now }
         ensures heard { (k : Knowledge) (well : RawState → Bool) → IsJudge k well flow.now defs.now → HasHeard k well [] result }
@@ -87,7 +87,7 @@ impl<'f> Judge<'f> {
         self.hold(rest)
     }
 
-    /// Bytes with a line feed behind them: the open line is whole.
+    /// Bytes with a line feed after them: the open line is whole.
     fn close(&mut self, bytes: &[u8]) -> Result<(), NoMemory>
         requires valid { IsValid self.old.flow.now self.old.defs.now }
         requires no_feed { HasNoFeed bytes.now }
@@ -157,7 +157,7 @@ impl<'f> Judge<'f> {
             → IsJudge k well self.entry.flow.now self.entry.defs.now → HasHeard k well text self.entry
             → IfOk result (Tells self.entry.flow.now self.entry.defs.now text) }
     {
-        // For the proof alone: which documents are read is told without a judge.
+        // For the proof alone: which documents are read is known without a judge.
         line_is_spelled_once();
         spelled_lines_are_read();
         refusals_are_one();

@@ -1,7 +1,7 @@
 // The names of lines.
 ghost use Rattle.mc_document.specs.Judge.Verdicts.{IsNamed};
 
-use mc_lines::cert::Line;
+use mc_lines::cert::{Line, rule_name};
 
 /// The name of a line, which is the first text of its array.
 pub fn name_of(line: &Line) -> &'static str
@@ -13,28 +13,11 @@ pub fn name_of(line: &Line) -> &'static str
         Line::Head(_, _) => "head",
         Line::Pass => "pass",
         Line::End => "end",
-        Line::S1 => "S1",
-        Line::S2 => "S2",
-        Line::S3 => "S3",
-        Line::S4 => "S4",
-        Line::S5 => "S5",
-        Line::S6 => "S6",
-        Line::S7 => "S7",
-        Line::S8 => "S8",
-        Line::S9 => "S9",
-        Line::S10 => "S10",
-        Line::S11 => "S11",
-        Line::S12 => "S12",
-        Line::S13 => "S13",
-        Line::S14 => "S14",
-        Line::S15 => "S15",
-        Line::S16 => "S16",
-        Line::S17 => "S17",
-        Line::S18 => "S18",
+        Line::Step(rule) => rule_name(*rule),
         Line::L1(_) => "L1",
         Line::L2(_) => "L2",
-        Line::L3(_, _, _, _, _) => "L3",
-        Line::L4(_, _, _, _, _, _) => "L4",
+        Line::L3(_) => "L3",
+        Line::L4(_) => "L4",
         Line::L5(_, _) => "L5",
         Line::L6(_, _) => "L6",
         Line::L7(_, _, _, _, _) => "L7",

@@ -18,7 +18,7 @@ fn line_len(bytes: &[u8]) -> usize
     n
 }
 
-/// The bytes before the first line feed, and those behind it; None where there is no line feed.
+/// The bytes before the first line feed, and those after it; None where there is no line feed.
 pub fn whole_line(bytes: &[u8]) -> Option<(&[u8], &[u8])>
     ensures { MatchOption result (HasNoFeed bytes.now) (λ r. HasNoFeed r.0.now × (bytes.now ≡ r.0.now ++ (10 ∷ r.1.now))) }
 {

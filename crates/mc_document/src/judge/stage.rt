@@ -108,7 +108,7 @@ fn unmet<'f>(number: u64, name: &'static str, fault: ApplyFault) -> Stage<'f>
     }
 }
 
-/// A line behind others.
+/// A line after others.
 fn taken<'f>(mut proof: Proof<'f>, number: u64, line: &Line) -> Stage<'f>
     ensures { (flow : Graph) (defs : List Def) (texts : List (List ℕ)) (bytes : List ℕ) → IsValid flow defs
         → number ≡ suc (length texts) → Spells bytes line.now → Leads flow defs bytes texts (Open proof.entry) result }
@@ -122,7 +122,7 @@ fn taken<'f>(mut proof: Proof<'f>, number: u64, line: &Line) -> Stage<'f>
     }
 }
 
-/// The bytes of a line behind others.
+/// The bytes of a line after others.
 fn gone_on<'f>(alloc: Global, proof: Proof<'f>, number: u64, bytes: &[u8]) -> Stage<'f>
     ensures { (flow : Graph) (defs : List Def) (texts : List (List ℕ)) → IsValid flow defs → number ≡ suc (length texts)
         → Leads flow defs bytes.now texts (Open proof.entry) result }

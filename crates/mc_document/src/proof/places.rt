@@ -49,7 +49,7 @@ pub fn has_all_heads(flow: &Flow, cuts: &[PointId]) -> bool
     flow.heads.as_slice().iter().all(|head| is_cut(cuts, *head))
 }
 
-/// Whether the point is behind the last cut.
+/// Whether the point is after the last cut.
 pub fn comes_after(cuts: &[PointId], point: PointId) -> bool
     ensures { result ≡ comes_after cuts.now point }
 {

@@ -41,7 +41,7 @@ pub struct Proof<'f> {
     stuck: u64,
 }
 
-/// Lets go of its parts. What holds one calls this.
+/// Drops its parts. What holds one calls this.
 impl Drop for Proof<'_> {
     fn drop(self) {
         let Proof {
@@ -100,7 +100,7 @@ impl<'f> Proof<'f> {
         self.branches.top()
     }
 
-    /// A cut: a Skip, behind the cut before.
+    /// A cut: a Skip, after the cut before.
     fn cut(&mut self, point: PointId) -> Result<(), ApplyFault>
         ensures { ComesTo (cutting_at point self.old) self.old self.new result }
     {
@@ -225,7 +225,7 @@ impl<'f> Proof<'f> {
         Ok(())
     }
 
-    /// How many branches are stuck behind a line. No memory where they can't be counted.
+    /// How many branches are stuck after a line. No memory where they can't be counted.
     fn stuck_behind(&self, line: &Line) -> Result<u64, AllocError>
         ensures { IfOk result (λ n. n ≡ self.now.stuck + marks line.now) }
     {

@@ -14,7 +14,7 @@ pub struct Stack {
     items: Vec<Branch>,
 }
 
-/// Lets go of its parts. What holds one calls this.
+/// Drops its parts. What holds one calls this.
 impl Drop for Stack {
     fn drop(self) {
         let Stack { items } = self;
@@ -98,8 +98,7 @@ impl Stack {
         ensures err { OnErr result (self.new ≡ self.old) }
     {
         list.reverse();
-        self.items.append(&mut list)?;
-        Ok(())
+        self.items.append(&mut list)
     }
 
     /// Puts what comes of a line at the top. Without memory nothing changes.

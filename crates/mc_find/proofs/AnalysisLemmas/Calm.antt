@@ -5,11 +5,10 @@ use Rattle.std.specs.List.{filter}
 use Rattle.std.proofs.lemmas.List.Elements.{filter-append}
 use Rattle.mc_base.specs.declared.ids.NodeId.{NodeId}
 use Rattle.mc_base.specs.declared.ids.PointId.{PointId}
+use Rattle.mc_state.specs.declared.line.InstrRule.{InstrRule}
 use Rattle.mc_lines.specs.declared.cert.line.Line.{Line}
-use Rattle.mc_lines.specs.declared.cert.line.Line.TheVariants.{Header, Cut, Head, Pass, End, S1, S2, S3, S4, S5, S6, S7}
-use Rattle.mc_lines.specs.declared.cert.line.Line.TheVariants.{S8, S9, S10, S11, S12, S13, S14, S15, S16, S17, S18, L1}
-use Rattle.mc_lines.specs.declared.cert.line.Line.TheVariants.{L2, L3, L4, L5, L6, L7, L8, L9, L10, L11, L12, L13, L14, L15}
-use Rattle.mc_lines.specs.declared.cert.line.Line.TheVariants.{C1, C2, C3}
+use Rattle.mc_lines.specs.declared.cert.line.Line.TheVariants.{Header, Cut, Head, Pass, End, Step, L1, L2, L3, L4, L5, L6, L7, L8, L9, L10}
+use Rattle.mc_lines.specs.declared.cert.line.Line.TheVariants.{L11, L12, L13, L14, L15, C1, C2, C3}
 use Rattle.mc_flow.specs.declared.defs.rules.Def.{Def}
 use Rattle.mc_flow.specs.declared.graph.Flow.{Flow}
 use Rattle.mc_state.specs.declared.goal.Goal.{Goal}
@@ -47,11 +46,10 @@ module _ (flow : Flow) (defs : List Def) (cuts : List PointId) where
   abbrev certificate : Setting
   certificate = record { form = Certificate; cuts = cuts; heads = [] }
 
-  by_step : (P : List Next → Type 0) (b : Path) (next : List Path) → ByStep (λ f p s steps. P steps) flow chain b next
-      → ByStep (λ f p s steps. P steps) flow certificate (opened b) (map opened next)
-  by_step P b next (may, (steps, rule, gives)) = (
+  by_step : (rule : InstrRule) (b : Path) (next : List Path) → ByStep rule flow chain b next → ByStep rule flow certificate (opened b) (map opened next)
+  by_step rule b next (may, (steps, is, gives)) = (
     record { plain = may.plain; open_still = refl; before_cut = may.before_cut },
-    (steps, rule, ap (map opened) gives ∙ opened_steps steps),
+    (steps, is, ap (map opened) gives ∙ opened_steps steps),
   )
 
   by_unfolding : (P : List State → Type 0) (b : Path) (next : List Path) → ByUnfolding (λ s states. P states) b next
@@ -72,28 +70,11 @@ module _ (flow : Flow) (defs : List Def) (cuts : List PointId) where
   -- a line that ends no branch as stuck is an instance in the certificate too
   instance_still : (l : Line) (b : Path) (next later : List Path) → stuck_by l b later ≡ [] → IsInstance flow defs chain l b next
       → IsInstance flow defs certificate l (opened b) (map opened next)
-  instance_still S1 b next later none i = by_step _ b next i
-  instance_still S2 b next later none i = by_step _ b next i
-  instance_still S3 b next later none i = by_step _ b next i
-  instance_still S4 b next later none i = by_step _ b next i
-  instance_still S5 b next later none i = by_step _ b next i
-  instance_still S6 b next later none i = by_step _ b next i
-  instance_still S7 b next later none i = by_step _ b next i
-  instance_still S8 b next later none i = by_step _ b next i
-  instance_still S9 b next later none i = by_step _ b next i
-  instance_still S10 b next later none i = by_step _ b next i
-  instance_still S11 b next later none i = by_step _ b next i
-  instance_still S12 b next later none i = by_step _ b next i
-  instance_still S13 b next later none i = by_step _ b next i
-  instance_still S14 b next later none i = by_step _ b next i
-  instance_still S15 b next later none i = by_step _ b next i
-  instance_still S16 b next later none i = by_step _ b next i
-  instance_still S17 b next later none i = by_step _ b next i
-  instance_still S18 b next later none i = by_step _ b next i
+  instance_still (Step rule) b next later none i = by_step rule b next i
   instance_still (L1 edge) b next later none i = by_unfolding _ b next i
   instance_still (L2 edge) b next later none i = by_unfolding _ b next i
-  instance_still (L3 pred rule names block edges) b next later none i = by_folding _ b next i
-  instance_still (L4 pred rule names block edges call) b next later none i = by_folding _ b next i
+  instance_still (L3 fold) b next later none i = by_folding _ b next i
+  instance_still (L4 fold) b next later none i = by_folding _ b next i
   instance_still (L5 first second) b next later none i = by_folding _ b next i
   instance_still (L6 first second) b next later none i = by_folding _ b next i
   instance_still (L7 pred at args stop ends) b next later none i = by_folding _ b next i

@@ -1,12 +1,10 @@
 // The images of variables.
 use crate::matching::Fit;
-use mc_base::{Kind, NoMemory, NodeId, PointId, VarId};
+use mc_base::{Kind, NULL, NoMemory, NodeId, PointId, VarId};
 use mc_find_shrink::Manner;
 use mc_state::{RawState, Term};
 use mc_symbolic::State;
 use std::alloc::Global;
-
-const NULL: NodeId = NodeId(0);
 
 /// Whether a pointer is null in the head exactly where it is in the state.
 fn are_null_alike(state: &State, kind: Kind, node: NodeId, own: NodeId) -> bool {

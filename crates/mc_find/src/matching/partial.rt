@@ -69,7 +69,7 @@ impl Part {
     }
 }
 
-/// Whether two terms are derived equal.
+/// Whether two terms are entailed equal.
 pub fn are_equal(state: &State, one: &Term, other: &Term) -> bool {
     let left = mc_pure::Term {
         node: one.node,

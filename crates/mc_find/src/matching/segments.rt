@@ -5,7 +5,8 @@ use crate::matching::partial::are_equal;
 use crate::matching::{Fit, Part};
 use mc_base::{Kind, NoMemory, NodeId, PredId, VarId};
 use mc_cover::Mark;
-use mc_find_shrink::{args_of, plain, seg_cover, taken_by};
+use mc_cover::search::seg_cover;
+use mc_find_shrink::{args_of, plain, taken_by};
 use mc_state::Term;
 use mc_symbolic::State;
 
@@ -82,7 +83,7 @@ fn args_at(
     Ok(None)
 }
 
-/// The end arguments of a segment, where they are known or an edge behind tells them.
+/// The end arguments of a segment, where they are known or an edge after tells them.
 fn end_args(
     ground: Ground<'_>,
     fit: &Fit,
@@ -111,6 +112,9 @@ fn marks_of(
     end: Term,
     ends: &[Term],
 ) -> Result<Option<Vec<Mark>>, NoMemory> {
+    if ground.state.is_false() {
+        return Ok(None);
+    }
     seg_cover(
         ground.alloc,
         ground.state,

@@ -2,14 +2,15 @@
 use crate::matching::Branch;
 use crate::walks::Attempt;
 use mc_base::NoMemory;
-use mc_find_paths::next::{accessed, at_end, at_start, instance};
+use mc_check_line::accessed_by;
+use mc_find_paths::next::{at_end, at_start, instance};
 use mc_flow::Instr;
 use mc_lines::cert::Line;
 
 impl Attempt<'_> {
     /// The line that unfolds an edge which starts at the node that is accessed.
     fn unfolding(&self, branch: &Branch, code: &Instr) -> Option<Line> {
-        match accessed(&branch.state, code) {
+        match accessed_by(&branch.state, code) {
             Some(node) => at_start(&branch.state, node),
             None => None,
         }
@@ -17,7 +18,7 @@ impl Attempt<'_> {
 
     /// The line that unfolds a segment from its end where the node is accessed.
     fn unfolding_back(&self, branch: &Branch, code: &Instr) -> Option<Line> {
-        match accessed(&branch.state, code) {
+        match accessed_by(&branch.state, code) {
             Some(node) => at_end(&branch.state, self.task.sight.defs, node),
             None => None,
         }

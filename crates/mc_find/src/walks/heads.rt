@@ -2,7 +2,7 @@
 ghost use Rattle.std.specs.Prelude.{All};
 ghost use Rattle.mc_base.specs.Ranges.Ends.{IsInt};
 
-use mc_base::{Atom, NoMemory, NodeId, PointId, VarId};
+use mc_base::{Atom, NULL, NoMemory, NodeId, PointId, VarId};
 use mc_find_view::sight::{Seen, are_alike};
 use mc_lines::cert::Line;
 use mc_pure::Pure;
@@ -10,8 +10,6 @@ use mc_pure_ops::join::{are_joinable, join};
 use mc_state::RawState;
 use mc_symbolic::State;
 use std::alloc::Global;
-
-const NULL: NodeId = NodeId(0);
 
 /// A state of a cut: as documents write it, and as lines change it; how often it changed; and the lines of the branches
 /// from it, where these are of the state as it is now.

@@ -6,10 +6,10 @@ ghost use Rattle.mc_kernel.specs.Progress.Asked.{at_block, freed_node, freeing, 
 ghost use Rattle.mc_rules_steps.specs.Judges.{is_block, is_block_at, is_shaped_at};
 ghost use Rattle.mc_state.specs.State.{var_node};
 
-use crate::next::unfolding::NULL;
-use mc_base::{EdgeId, NodeId, StructId, VarId};
+use mc_base::{EdgeId, NULL, NodeId, StructId, VarId};
 use mc_flow::{Instr, Operand};
 use mc_lines::cert::Line;
+use mc_state::InstrRule;
 use mc_state::graph::Edge;
 use mc_symbolic::State;
 
@@ -95,10 +95,10 @@ fn freeing(state: &State, node: NodeId) -> Option<Line>
     ensures { (know : Test) → Tells know state.now → result ≡ freeing know state.now.graph.edges node }
 {
     if state.are_equal(node, NULL) {
-        return Some(Line::S11);
+        return Some(Line::Step(InstrRule::S11));
     }
     if has_block(state, node) {
-        Some(Line::S12)
+        Some(Line::Step(InstrRule::S12))
     } else {
         None
     }
@@ -121,23 +121,33 @@ pub fn instance(state: &State, code: &Instr) -> Option<Line>
     ensures { (know : Test) → Tells know state.now → result ≡ instance know state.now code.now }
 {
     match code {
-        Instr::Skip(_) => Some(Line::S1),
-        Instr::Copy(_, _, _) => Some(Line::S2),
-        Instr::Undef(_, _) => Some(Line::S3),
-        Instr::Input(_, _) => Some(Line::S4),
-        Instr::Add(_, _, _, _) => Some(Line::S5),
-        Instr::Sub(_, _, _, _) => Some(Line::S6),
-        Instr::Mul(_, _, _, _) => Some(Line::S7),
-        Instr::Load(_, base, shape, _, _) => at_block(state, *base, *shape, Line::S8),
-        Instr::Store(base, shape, _, _, _) => at_block(state, *base, *shape, Line::S9),
-        Instr::Malloc(_, _, _) => Some(Line::S10),
+        Instr::Skip(_) => Some(Line::Step(InstrRule::S1)),
+        Instr::Copy(_, _, _) => Some(Line::Step(InstrRule::S2)),
+        Instr::Undef(_, _) => Some(Line::Step(InstrRule::S3)),
+        Instr::Input(_, _) => Some(Line::Step(InstrRule::S4)),
+        Instr::Add(_, _, _, _) => Some(Line::Step(InstrRule::S5)),
+        Instr::Sub(_, _, _, _) => Some(Line::Step(InstrRule::S6)),
+        Instr::Mul(_, _, _, _) => Some(Line::Step(InstrRule::S7)),
+        Instr::Load(_, base, shape, _, _) => at_block(
+            state,
+            *base,
+            *shape,
+            Line::Step(InstrRule::S8),
+        ),
+        Instr::Store(base, shape, _, _, _) => at_block(
+            state,
+            *base,
+            *shape,
+            Line::Step(InstrRule::S9),
+        ),
+        Instr::Malloc(_, _, _) => Some(Line::Step(InstrRule::S10)),
         Instr::Free(freed, _) => freeing_at(state, *freed),
-        Instr::TestEq(_, _, _, _) => Some(Line::S13),
-        Instr::TestLe(_, _, _, _) => Some(Line::S14),
-        Instr::AssumeShape(_, _, _, _) => Some(Line::S15),
-        Instr::AssertShape(_, _, _, _) => Some(Line::S16),
-        Instr::AssertEmpty(_) => Some(Line::S18),
-        Instr::End => Some(Line::S17),
+        Instr::TestEq(_, _, _, _) => Some(Line::Step(InstrRule::S13)),
+        Instr::TestLe(_, _, _, _) => Some(Line::Step(InstrRule::S14)),
+        Instr::AssumeShape(_, _, _, _) => Some(Line::Step(InstrRule::S15)),
+        Instr::AssertShape(_, _, _, _) => Some(Line::Step(InstrRule::S16)),
+        Instr::AssertEmpty(_) => Some(Line::Step(InstrRule::S18)),
+        Instr::End => Some(Line::Step(InstrRule::S17)),
         Instr::Fail => None,
     }
 }

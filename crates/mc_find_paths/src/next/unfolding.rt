@@ -5,13 +5,11 @@ ghost use Rattle.mc_state.specs.Known.{Test, Tells};
 ghost use Rattle.mc_kernel.specs.Progress.Asked.{at_end, at_node, at_start, ends_at, false_or_null, from_start, is_summary, starts_at};
 
 use mc_apply_unfold::{Segment, is_reached_back};
-use mc_base::{EdgeId, NodeId};
+use mc_base::{EdgeId, NULL, NodeId};
 use mc_flow::defs::Defs;
 use mc_lines::cert::Line;
 use mc_state::graph::Edge;
 use mc_symbolic::State;
-
-pub const NULL: NodeId = NodeId(0);
 
 /// The line that unfolds an edge from its start; None for a block.
 fn from_start(edge: &(EdgeId, Edge)) -> Option<Line>

@@ -25,7 +25,7 @@ pub struct Paths<'f> {
     open: Stack,
 }
 
-/// Lets go of the branches. What holds them calls this.
+/// Drops the branches. What holds them calls this.
 impl Drop for Paths<'_> {
     fn drop(self) {
         let Paths {
@@ -195,14 +195,13 @@ impl<'f> Paths<'f> {
             cuts: self.cuts,
             heads: &[],
         };
-        let is_instance = advance(
+        advance(
             self.alloc,
             self.flow,
             self.defs,
             setting,
             line,
             &mut self.open,
-        )?;
-        Ok(is_instance)
+        )
     }
 }

@@ -21,21 +21,3 @@ pub fn cover(
     }
     mc_cover::search::cover(alloc, state, defs, used, pred, at, args)
 }
-
-/// The first cover of a segment of a predicate. None where the state is false.
-pub fn seg_cover(
-    alloc: Global,
-    state: &State,
-    defs: &Defs,
-    used: &[EdgeId],
-    pred: PredId,
-    at: Term,
-    args: &[Term],
-    end: Term,
-    ends: &[Term],
-) -> Result<Option<Vec<Mark>>, NoMemory> {
-    if state.is_false() {
-        return Ok(None);
-    }
-    mc_cover::search::seg_cover(alloc, state, defs, used, pred, at, args, end, ends)
-}

@@ -1,13 +1,14 @@
 // The lines that make a predicate, or a segment of it, of the edges of a cover.
 use crate::trail::Trail;
-use crate::trail::names::{call_args, plain, push_contents, push_fixed, term_of};
+use crate::trail::names::{call_args, push_contents, push_fixed};
 use crate::trail::tasks::{Body, Frame, Made, Task};
 use mc_base::{EdgeId, Items, NoMemory, PredId};
 use mc_cover::Mark;
+use mc_cover::search::{plain, term_at};
 use mc_flow::defs::{Def, Defs, Rule};
 use mc_lines::cert::Line;
-use mc_state::Term;
 use mc_state::graph::Edge;
+use mc_state::{FoldInd, FoldSeg, Term};
 use std::alloc::Global;
 
 /// What came of making: this edge, nothing where a segment is empty, or it could not be made.
@@ -75,7 +76,7 @@ impl Trail<'_> {
         })
     }
 
-    /// What is to be made behind a segment.
+    /// What is to be made after a segment.
     fn behind(&self, alloc: Global, seg: EdgeId, task: &Task) -> Result<Option<Task>, NoMemory> {
         let Some(Edge::Seg { end, end_args, .. }) = self.edge(seg) else {
             return Ok(None);
@@ -92,7 +93,7 @@ impl Trail<'_> {
         }))
     }
 
-    /// L5 or L6, where something was made behind a segment.
+    /// L5 or L6, where something was made after a segment.
     fn close(&mut self, seg: EdgeId, to_stop: bool, made: Made) -> Result<Turn, NoMemory> {
         let Made::Edge(other) = made else {
             return Ok(Turn::Made(Made::Edge(seg)));
@@ -128,21 +129,27 @@ impl Trail<'_> {
         let (edges, last) = calls_of(alloc, body)?;
         let number = body.rule as u64;
         let Some(call) = body.call else {
-            let line = Line::L3(body.pred, number, Items::of(names), body.block, edges);
-            return self.turn(line);
+            let fold = FoldInd {
+                pred: body.pred,
+                rule: number,
+                names: Items::of(names),
+                block: body.block,
+                edges,
+            };
+            return self.turn(Line::L3(fold));
         };
         let Some(block) = body.block else {
             return Ok(Turn::Failed);
         };
-        let line = Line::L4(
-            body.pred,
-            number,
-            Items::of(names),
+        let fold = FoldSeg {
+            pred: body.pred,
+            rule: number,
+            names: Items::of(names),
             block,
             edges,
-            call as u64,
-        );
-        let turn = self.turn(line)?;
+            call: call as u64,
+        };
+        let turn = self.turn(Line::L4(fold))?;
         match (turn, last) {
             (Turn::Made(Made::Edge(seg)), Made::Edge(other)) => { self.turn(Line::L6(seg, other)) }
             (turn, _) => Ok(turn),
@@ -172,7 +179,7 @@ fn next_call(alloc: Global, rule: &Rule, body: &Body) -> Result<Option<Task>, No
     };
     Ok(Some(Task {
         pred: call.pred,
-        at: term_of(body.names.as_slice(), call.at),
+        at: term_at(body.names.as_slice(), call.at),
         args: call_args(alloc, body.names.as_slice(), call)?,
         to_stop: body.call == Some(place),
     }))

@@ -1,27 +1,13 @@
 // Nodes for the names of rules.
 use crate::trail::Trail;
-use mc_base::{Kind, NoMemory, NodeId};
+use mc_base::{Kind, NULL, NoMemory, NodeId};
+use mc_cover::search::{base_at, plain, term_at};
 use mc_flow::defs::{Call, DefAtom, Rule};
 use mc_lines::cert::Line;
 use mc_state::Term;
 use mc_state::graph::Edge;
 use mc_symbolic::State;
 use std::alloc::Global;
-
-const NULL: NodeId = NodeId(0);
-
-/// A node alone.
-pub fn plain(node: NodeId) -> Term {
-    Term { node, add: 0 }
-}
-
-/// The term of a name; null for a name that is not there.
-pub fn term_of(names: &[Term], name: u64) -> Term {
-    match names.get(name as usize) {
-        Some(term) => *term,
-        None => plain(NULL),
-    }
-}
 
 /// A term and a number more.
 fn moved(term: &Term, add: i64) -> Term {
@@ -55,10 +41,7 @@ pub fn push_fixed(names: &mut Vec<Term>, rule: &Rule) -> Result<(), NoMemory> {
             ..
         } = atom
         {
-            let from = match base {
-                Some(name) => term_of(names.as_slice(), *name),
-                None => plain(NULL),
-            };
+            let from = base_at(names.as_slice(), *base);
             names.push(moved(&from, *add))?;
         }
     }
@@ -69,7 +52,7 @@ pub fn push_fixed(names: &mut Vec<Term>, rule: &Rule) -> Result<(), NoMemory> {
 pub fn call_args(alloc: Global, names: &[Term], call: &Call) -> Result<Vec<Term>, NoMemory> {
     let mut args = Vec::with_capacity(alloc, call.args.len())?;
     for name in call.args.as_slice() {
-        args.push(term_of(names, *name))?;
+        args.push(term_at(names, *name))?;
     }
     Ok(args)
 }

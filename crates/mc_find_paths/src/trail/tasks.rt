@@ -35,7 +35,7 @@ pub struct Body {
 /// What stands open while a cover is made.
 #[derive(Drop)]
 pub enum Frame {
-    /// This segment, with what is made behind it.
+    /// This segment, with what is made after it.
     Behind { seg: EdgeId, to_stop: bool },
     Rule(Body),
 }

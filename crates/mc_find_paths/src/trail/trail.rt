@@ -11,7 +11,7 @@ pub struct Trail<'f> {
     lines: Vec<Line>,
 }
 
-/// Lets go of the branch and its lines. What holds a trail calls this.
+/// Drops the branch and its lines. What holds a trail calls this.
 impl Drop for Trail<'_> {
     fn drop(self) {
         let Trail { paths, lines } = self;

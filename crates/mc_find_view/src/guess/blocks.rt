@@ -8,8 +8,8 @@ ghost use Rattle.mc_cover.specs.Guessed.{first_edge};
 ghost use Rattle.mc_cover.specs.Search.Setting.{free_edges};
 
 use crate::guess::edges::{are_equal, is_used};
-use crate::guess::names::plain;
 use mc_base::{EdgeId, NoMemory, NodeId, StructId};
+use mc_cover::search::plain;
 use mc_state::Term;
 use mc_state::graph::Edge;
 use mc_symbolic::State;
@@ -29,7 +29,7 @@ fn push_fields(nodes: &mut Vec<NodeId>, fields: &[Option<NodeId>]) -> Result<boo
     Ok(true)
 }
 
-/// Whether the structs are one, and the terms derived equal.
+/// Whether the structs are one, and the terms entailed equal.
 fn is_there(state: &State, at: &Term, start: NodeId, shape: StructId, own: StructId) -> bool
     ensures { (know : Test) → Tells know state.now → result ≡ (own.0 == shape.0 && equal_terms know at.now (plain start)) }
 {
@@ -68,8 +68,7 @@ fn whole_at(
             if !is_there(state, at, *start, shape, *own) {
                 return Ok(None);
             }
-            let nodes = known_fields(alloc, fields.as_slice())?;
-            Ok(nodes)
+            known_fields(alloc, fields.as_slice())
         }
         Edge::Ind { .. } => Ok(None),
         Edge::Seg { .. } => Ok(None),

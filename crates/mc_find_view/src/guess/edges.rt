@@ -8,8 +8,8 @@ ghost use Rattle.mc_cover.specs.Terms.{equal_terms};
 ghost use Rattle.mc_cover.specs.Guessed.{summary_of, by_summary};
 ghost use Rattle.mc_cover.specs.Search.Setting.{free_edges};
 
-use crate::guess::names::plain;
 use mc_base::{EdgeId, NoMemory, NodeId, PredId};
+use mc_cover::search::plain;
 use mc_state::Term;
 use mc_state::graph::Edge;
 use mc_symbolic::State;
@@ -38,7 +38,7 @@ fn as_asked(term: &Term) -> mc_pure::Term
     }
 }
 
-/// Whether the terms are derived to be equal.
+/// Whether the terms are entailed to be equal.
 pub fn are_equal(state: &State, left: &Term, right: &Term) -> bool
     ensures { (know : Test) → Tells know state.now → result ≡ equal_terms know left.now right.now }
 {
@@ -48,7 +48,7 @@ pub fn are_equal(state: &State, left: &Term, right: &Term) -> bool
     pure.are_equal(&first, &second)
 }
 
-/// Whether the predicates are one, and the terms derived equal.
+/// Whether the predicates are one, and the terms entailed equal.
 fn is_there(state: &State, at: &Term, start: NodeId, pred: PredId, own: PredId) -> bool
     ensures { (know : Test) → Tells know state.now → result ≡ (own.0 == pred.0 && equal_terms know at.now (plain start)) }
 {

@@ -6,9 +6,10 @@ ghost use Rattle.mc_cover.specs.Guessed.{by_stop, guess, guess_at, given_by_rule
 ghost use Rattle.mc_cover.specs.Search.Setting.{free_edges};
 
 use crate::guess::edges::{are_equal, is_used, summary};
-use crate::guess::names::{begin, given, plain, settle, take_guess, taken_by_parameters};
+use crate::guess::names::{begin, given, settle, take_guess, taken_by_parameters};
 use crate::guess::rules::{first_block, first_empty};
 use mc_base::{EdgeId, Items, NoMemory, NodeId, PredId};
+use mc_cover::search::plain;
 use mc_flow::defs::{Def, Defs, Rule};
 use mc_state::Term;
 use mc_symbolic::State;

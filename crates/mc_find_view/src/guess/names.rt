@@ -4,23 +4,14 @@ ghost use Rattle.mc_flow.specs.declared.defs.rules.Rule.{Rule as Declared};
 ghost use Rattle.mc_state.specs.Terms.{plain};
 ghost use Rattle.mc_state.specs.Guess.{given, give, bounded, moved_by, base_given, give_base, by_atom, by_atoms, by_passes, give_all, begun, or_zero, parameters_of};
 
-use mc_base::{NoMemory, NodeId};
+use mc_base::{NULL, NoMemory, NodeId};
+use mc_cover::search::plain;
 use mc_flow::defs::{DefAtom, Rule};
 use mc_state::Term;
 use std::alloc::Global;
 
 /// The greatest offset, 2^62 + 2^32.
 const FARTHEST: i64 = 4_611_686_022_722_355_200;
-
-/// The null pointer.
-const NULL: NodeId = NodeId(0);
-
-/// A node alone.
-pub fn plain(node: NodeId) -> Term
-    ensures { result ≡ plain node }
-{
-    Term { node, add: 0 }
-}
 
 /// The term of a name, if it has one.
 #[tactic(auto, using(crate::proofs::GuessLemmas::Given::given_at))]

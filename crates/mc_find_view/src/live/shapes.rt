@@ -50,7 +50,7 @@ fn push_called(open: &mut Vec<PredId>, defs: &Defs, pred: PredId) -> Result<(), 
 }
 
 /// All predicates in the order in which they are wanted: those that the program asserts, then those that it assumes, then
-/// the others, each behind those that it calls.
+/// the others, each after those that it calls.
 pub fn wanted_predicates(alloc: Global, flow: &Flow, defs: &Defs) -> Result<Vec<PredId>, NoMemory> {
     let mut list = Vec::new(alloc);
     for point in flow.points.as_slice() {

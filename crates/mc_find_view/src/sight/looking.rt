@@ -2,14 +2,14 @@
 use crate::sight::naming::is_dead_field;
 use crate::sight::{Seen, Sight};
 use mc_apply_unfold::is_back;
-use mc_base::{Args, EdgeId, Items, Kind, NoMemory, NodeId, PointId, PredId, StructId, VarId};
+use mc_base::{
+    Args, EdgeId, Items, Kind, NULL, NoMemory, NodeId, PointId, PredId, StructId, VarId,
+};
 use mc_pure::ClassPlace;
 use mc_state::graph::Edge;
 use mc_state::{NodeKind, RawState};
 use mc_symbolic::State;
 use std::alloc::Global;
-
-const NULL: NodeId = NodeId(0);
 
 /// A node that was met: where it stands in its class, and its number in the head.
 #[derive(Clone, Copy)]
@@ -241,7 +241,7 @@ impl Viewing<'_> {
         Ok(())
     }
 
-    /// Takes all edges that can be reached from the nodes that were met, from a place in their list on. The place behind.
+    /// Takes all edges that can be reached from the nodes that were met, from a place in their list on. The place after.
     fn follow(&mut self, from: usize) -> Result<usize, NoMemory> {
         let mut next = from;
         for _ in 0..self.state.nodes().len() {

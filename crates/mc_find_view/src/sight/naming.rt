@@ -69,7 +69,7 @@ impl Nodes<'_> {
         false
     }
 
-    /// Whether an edge names a node behind its start.
+    /// Whether an edge names a node after its start.
     pub fn names(&self, edge: &Edge, node: NodeId) -> bool {
         match edge {
             Edge::Block { at, shape, fields } => {

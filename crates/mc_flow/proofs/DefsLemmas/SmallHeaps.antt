@@ -169,7 +169,7 @@ two_long =
     (len_cell 9 (pos 6) (pos 0) (pos 1) (pos 0) nine_names refl (blocks second_cell) (blocks []) second_split no_len)
 
 -- ---- trees
-abbrev leaf_by : RuleValues defs tree_id (pos 0) []
+abbrev pub leaf_by : RuleValues defs tree_id (pos 0) []
 leaf_by =
     record {
       def = tree_def;

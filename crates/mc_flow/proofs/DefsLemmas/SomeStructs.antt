@@ -14,10 +14,10 @@ use Rattle.mc_flow.specs.Defs.Conditions.{numbers_from, kinds_of, content_kinds,
 
 -- ---- lists
 module _ {A : Type 0} where
-  all_tail : (P : A → Type 0) (x : A) (xs : List A) → All P (x ∷ xs) → All P xs
+  pub all_tail : (P : A → Type 0) (x : A) (xs : List A) → All P (x ∷ xs) → All P xs
   all_tail P x xs a = λ k d lt. a (suc k) d (omega arith)
 
-  all_head : (P : A → Type 0) (x : A) (xs : List A) → All P (x ∷ xs) → P x
+  pub all_head : (P : A → Type 0) (x : A) (xs : List A) → All P (x ∷ xs) → P x
   all_head P x xs a = a 0 x (omega arith)
 
   pub all_nil : (P : A → Type 0) → All P []
@@ -61,7 +61,7 @@ get_numbers f i (suc n) (suc s) lt =
     let e : suc i + s ≡ i + suc s = omega arith in get_numbers f (suc i) n s (omega arith) ∙ ap (λ m. Some (f m)) e
 
 -- ---- the names of a rule
-known_grows : (known : ℕ) (a : DefAtom) → known ≤ known_after known a
+pub known_grows : (known : ℕ) (a : DefAtom) → known ≤ known_after known a
 known_grows known (Eq left base add true) = omega arith
 known_grows known (Eq left base add false) = omega arith
 known_grows known (Ne left base add) = omega arith

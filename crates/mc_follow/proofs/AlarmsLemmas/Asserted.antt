@@ -21,7 +21,7 @@ use Rattle.mc_state.specs.Terms.{plain}
 use Rattle.mc_rules_steps.specs.declared.gap.Gap.{Gap}
 use Rattle.mc_rules_steps.specs.declared.gap.Gap.TheVariants.{NoShape}
 use Rattle.mc_rules_steps.specs.JudgedLaws.{IsMadeFor}
-use Rattle.mc_rules_steps.specs.Laws as rule
+use Rattle.mc_state.specs.declared.line.InstrRule.TheVariants.{S16}
 use Rattle.mc_rules_steps.specs.Next.{Next}
 use Rattle.mc_rules_steps.specs.Operands.{with_operand, with_operands, AreNodesOf}
 use Rattle.mc_rules_steps.specs.Steps.{S16Is, moved_to}
@@ -88,7 +88,7 @@ module _ (laws : AssertionsAreCovered) (flow : Flow) (defs : List Def) (valid : 
     -- the side branch's state is well made, and its goal fits
     side_made : IsMadeFor flow defs (record { point = b.point; goal = Some i.goal; state = t })
     side_made = subst (IsMadeFor flow defs) i.side_is
-        (subst (AllByRecursion (IsMadeFor flow defs)) i.gives (laws.made flow defs b.point b.state steps valid made (rule.S16 i))).0
+        (subst (AllByRecursion (IsMadeFor flow defs)) i.gives (laws.made flow defs b.point b.state steps valid made (S16, i))).0
 
     abbrev first : Option Choice
     first = first_cover (know t) defs i.pred (plain i.n) (map plain i.args) t.graph.edges
@@ -143,7 +143,7 @@ module _ (laws : AssertionsAreCovered) (flow : Flow) (defs : List Def) (valid : 
         none : (goal : Goal) → None ≡ Some goal → IsCovered defs b.state goal
         none goal is = absurd (cc is)
 
-  pub asserted_covered : (g : Setting) (next : List Path) → ByStep S16Is flow g b next → AreCovered defs next
+  pub asserted_covered : (g : Setting) (next : List Path) → ByStep S16 flow g b next → AreCovered defs next
   asserted_covered g next i = subst (AreCovered defs) (sym i.1.2) (steps_covered i.1.0 i.1.1)
 
 -- ---- branches

@@ -4,8 +4,9 @@ use Rattle.std.specs.List.{find}
 use Rattle.std.specs.Prelude.{if◌then◌else◌}
 use Rattle.mc_base.specs.declared.ids.EdgeId.{EdgeId}
 use Rattle.mc_base.specs.Nodes.{null}
+use Rattle.mc_state.specs.declared.line.InstrRule.TheVariants.{S16}
 use Rattle.mc_lines.specs.declared.cert.line.Line.{Line}
-use Rattle.mc_lines.specs.declared.cert.line.Line.TheVariants.{S16, L12}
+use Rattle.mc_lines.specs.declared.cert.line.Line.TheVariants.{Step, L12}
 use Rattle.mc_flow.specs.declared.defs.rules.Def.{Def}
 use Rattle.mc_flow.specs.declared.graph.Flow.{Flow}
 use Rattle.mc_state.specs.declared.graph.edge.Edge.{Edge}
@@ -48,22 +49,22 @@ at_covered defs p covered at = record {
 }
 
 -- the line of a false state or an edge at null asserts nothing
-first_asserts_not : (know : Test) (es : Edges) → false_or_null know es ≡ Some S16 → ⊥
+first_asserts_not : (know : Test) (es : Edges) → false_or_null know es ≡ Some (Step S16) → ⊥
 first_asserts_not know es e = by (is_false know) e
   where
-    from : (o : Option (EdgeId × Edge)) → option_and_then from_start o ≡ Some S16 → ⊥
+    from : (o : Option (EdgeId × Edge)) → option_and_then from_start o ≡ Some (Step S16) → ⊥
     from None e = cc e
     from (Some (id, Block at shape fields)) e = cc e
     from (Some (id, Ind at pred args)) e = cc e
     from (Some (id, Seg at args pred «end» ends)) e = cc e
 
-    by : (b : Bool) → (if b then Some L12 else at_start know null es) ≡ Some S16 → ⊥
+    by : (b : Bool) → (if b then Some L12 else at_start know null es) ≡ Some (Step S16) → ⊥
     by true e = cc e
     by false e = from (find (starts_at know null) es) e
 
 module _ (laws : DocumentsAreFollowed) (flow : Flow) (defs : List Def) (lines : List Line) (p : Position) (text : List ℕ) (ended : ℕ)
     (f : IsFollowed flow defs lines p text ended) (covers : AssertionsAreCovered) where
-  -- a test that tells what is derived in each well-made state
+  -- a test that tells what is entailed in each well-made state
   record Telling : Type 0 where
     pub know : State → Test
     pub tells : (s : State) → IsWellMade defs flow.vars flow.structs.list s → Tells (know s) s
@@ -77,7 +78,7 @@ module _ (laws : DocumentsAreFollowed) (flow : Flow) (defs : List Def) (lines : 
       }
 
   -- what a line makes of the first branch, where that is no side branch, is covered, if its instruction is met where it asserts
-  module _ (l : Line) (new : Position) (t : IsTurned flow defs l p new) (plain : IsPlain t.first) (met : l ≡ S16 → IsMet flow defs p) where
+  module _ (l : Line) (new : Position) (t : IsTurned flow defs l p new) (plain : IsPlain t.first) (met : l ≡ Step S16 → IsMet flow defs p) where
     next_covered : AreCovered defs t.next
     next_covered = elim (plain_or flow defs (setting_at p) t.first t.next plain l t.instance) [
       | inl all ↦ plain_covered defs t.next all
@@ -96,10 +97,10 @@ module _ (laws : DocumentsAreFollowed) (flow : Flow) (defs : List Def) (lines : 
       same b c bs cs e = cc e
 
   -- the line that is asked for first asserts nothing
-  pub first_is_no_assertion : (l : Line) → IsAtFirst l p → l ≡ S16 → IsMet flow defs p
+  pub first_is_no_assertion : (l : Line) → IsAtFirst l p → l ≡ Step S16 → IsMet flow defs p
   first_is_no_assertion l at e =
       let t = told laws flow defs lines p text ended f at.first at.others at.branches_are in
-      absurd (first_asserts_not t.know at.first.state.graph.edges (at.asked t.know t.tells ∙ some_same l S16 e))
+      absurd (first_asserts_not t.know at.first.state.graph.edges (at.asked t.know t.tells ∙ some_same l (Step S16) e))
     where
       some_same : (l m : Line) → l ≡ m → Some l ≡ Some m
       some_same l m e = cc e

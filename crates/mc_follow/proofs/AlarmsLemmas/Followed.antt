@@ -43,7 +43,7 @@ ended_more : (lines : List Line) (l : Line) → ended_by (lines ++ l ∷ []) ≡
 ended_more [] l = omega arith
 ended_more (m ∷ lines) l = let e : ended_by (lines ++ l ∷ []) ≡ ended_by lines + ending l = ended_more lines l in omega (arith, e)
 
--- a line more behind those of stuck branches
+-- a line more after those of stuck branches
 alarm_more : (flow : Flow) (defs : List Def) (stuck : List Path) (b : Path) (text line : List ℕ) → AreAlarmLines flow defs stuck text
     → IsAlarmLine flow defs b.point b.state line → AreAlarmLines flow defs (stuck ++ b ∷ []) (text ++ line)
 alarm_more flow defs [] b text line none is = (line, [], is, refl, ap (λ (t : List ℕ). t ++ line) none ∙ sym (append-nil line))
@@ -495,7 +495,7 @@ module _ (laws : DocumentsAreFollowed) (flow : Flow) (defs : List Def) (lines : 
     here_open : IsInside flow b × (b.closing ≡ false)
     here_open = (subst (AreOpen flow) is f.open_are).0
 
-    -- a test that tells what is derived at the first branch, whose state is well made
+    -- a test that tells what is entailed at the first branch, whose state is well made
     pub record IsTold : Type 0 where
       pub know : Test
       pub tells : Tells know b.state

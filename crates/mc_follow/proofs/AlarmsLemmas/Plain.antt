@@ -2,15 +2,17 @@
 use Rattle.std.proofs.Common.{◌≡◌, ◌⊎◌, inl, inr, List, [], ◌∷◌, map, Option, Some, None, option_map, refl, sym, ap, subst}
 use Rattle.std.specs.List.{AllByRecursion}
 use Rattle.mc_base.specs.declared.ids.PointId.{PointId}
+use Rattle.mc_state.specs.declared.line.InstrRule.{InstrRule}
+use Rattle.mc_state.specs.declared.line.InstrRule.TheVariants.{S1, S2, S3, S4, S5, S6, S7, S8, S9, S10, S11, S12, S13, S14, S15, S16, S17, S18}
 use Rattle.mc_lines.specs.declared.cert.line.Line.{Line}
-use Rattle.mc_lines.specs.declared.cert.line.Line.TheVariants.{Header, Cut, Head, Pass, End, S1, S2, S3, S4, S5, S6, S7, S8, S9, S10, S11, S12, S13, S14, S15, S16, S17, S18}
-use Rattle.mc_lines.specs.declared.cert.line.Line.TheVariants.{L1, L2, L3, L4, L5, L6, L7, L8, L9, L10, L11, L12, L13, L14, L15, C1, C2, C3}
+use Rattle.mc_lines.specs.declared.cert.line.Line.TheVariants.{Header, Cut, Head, Pass, End, Step, L1, L2, L3, L4, L5, L6, L7, L8, L9, L10}
+use Rattle.mc_lines.specs.declared.cert.line.Line.TheVariants.{L11, L12, L13, L14, L15, C1, C2, C3}
 use Rattle.mc_flow.specs.declared.defs.rules.Def.{Def}
 use Rattle.mc_flow.specs.declared.graph.Flow.{Flow}
 use Rattle.mc_state.specs.declared.goal.Goal.{Goal}
 use Rattle.mc_state.specs.State.{State}
 use Rattle.mc_rules_steps.specs.Next.{Next}
-use Rattle.mc_rules_steps.specs.Steps.{S1Is, S2Is, S3Is, S4Is, S5Is, S6Is, S7Is, S8Is, S9Is, S10Is, S11Is, S12Is, S13Is, S14Is, S15Is, S16Is, S17Is, S18Is}
+use Rattle.mc_rules_steps.specs.Steps.{StepIs}
 use Rattle.mc_kernel.specs.Branches.{IsPlain, Path, Setting, merged_goal, path_of, path_to, with_state}
 use Rattle.mc_kernel.specs.Instances.{ByStep, IsInstance}
 
@@ -46,9 +48,9 @@ paths_plain : (steps : List Next) → HaveNoGoal steps → ArePlain (map path_of
 paths_plain [] none = tt
 paths_plain (n ∷ steps) none = (path_plain n.point n.state n.goal none.0, paths_plain steps none.1)
 
-by_step : (Rule : Flow → PointId → State → List Next → Type 0) (flow : Flow) (g : Setting) (b : Path) (next : List Path)
-    → ((steps : List Next) → Rule flow b.point b.state steps → HaveNoGoal steps) → ByStep Rule flow g b next → ArePlain next
-by_step Rule flow g b next each i =
+by_step : (rule : InstrRule) (flow : Flow) (g : Setting) (b : Path) (next : List Path)
+    → ((steps : List Next) → StepIs rule flow b.point b.state steps → HaveNoGoal steps) → ByStep rule flow g b next → ArePlain next
+by_step rule flow g b next each i =
     let steps = i.1 in
     subst ArePlain (sym steps.2) (paths_plain steps.0 (each steps.0 steps.1))
 
@@ -56,7 +58,7 @@ by_step Rule flow g b next each i =
 
 -- the line is that of an assertion, and an instance
 abbrev pub Asserts : Flow → Setting → Line → Path → List Path → Type 0
-Asserts flow g l b next = (l ≡ S16) × ByStep S16Is flow g b next
+Asserts flow g l b next = (l ≡ Step S16) × ByStep S16 flow g b next
 
 module _ (flow : Flow) (defs : List Def) (g : Setting) (b : Path) (next : List Path) (plain : IsPlain b) where
   one : (steps : List Next) (n : Next) → n.goal ≡ None → steps ≡ n ∷ [] → HaveNoGoal steps
@@ -65,31 +67,34 @@ module _ (flow : Flow) (defs : List Def) (g : Setting) (b : Path) (next : List P
   two : (steps : List Next) (n m : Next) → n.goal ≡ None → m.goal ≡ None → steps ≡ n ∷ m ∷ [] → HaveNoGoal steps
   two steps n m plain_n plain_m gives = given steps (n ∷ m ∷ []) gives (plain_n, (plain_m, tt))
 
+  stepped_or : (rule : InstrRule) → ByStep rule flow g b next → ArePlain next ⊎ Asserts flow g (Step rule) b next
+  stepped_or S1 i = inl (by_step S1 flow g b next (λ steps r. one steps _ refl r.gives) i)
+  stepped_or S2 i = inl (by_step S2 flow g b next (λ steps r. one steps _ refl r.gives) i)
+  stepped_or S3 i = inl (by_step S3 flow g b next (λ steps r. one steps _ refl r.gives) i)
+  stepped_or S4 i = inl (by_step S4 flow g b next (λ steps r. one steps _ refl r.gives) i)
+  stepped_or S5 i = inl (by_step S5 flow g b next (λ steps r. one steps _ refl r.computes.gives) i)
+  stepped_or S6 i = inl (by_step S6 flow g b next (λ steps r. one steps _ refl r.computes.gives) i)
+  stepped_or S7 i = inl (by_step S7 flow g b next (λ steps r. one steps _ refl r.computes.gives) i)
+  stepped_or S8 i = inl (by_step S8 flow g b next (λ steps r. one steps _ refl r.gives) i)
+  stepped_or S9 i = inl (by_step S9 flow g b next (λ steps r. one steps _ refl r.gives) i)
+  stepped_or S10 i = inl (by_step S10 flow g b next (λ steps r. two steps _ _ refl refl r.gives) i)
+  stepped_or S11 i = inl (by_step S11 flow g b next (λ steps r. one steps _ refl r.gives) i)
+  stepped_or S12 i = inl (by_step S12 flow g b next (λ steps r. one steps _ refl r.gives) i)
+  stepped_or S13 i = inl (by_step S13 flow g b next (λ steps r. two steps _ _ refl refl r.gives) i)
+  stepped_or S14 i = inl (by_step S14 flow g b next (λ steps r. two steps _ _ refl refl r.gives) i)
+  stepped_or S15 i = inl (by_step S15 flow g b next (λ steps r. one steps _ refl r.gives) i)
+  stepped_or S16 i = inr (refl, i)
+  stepped_or S17 i = inl (by_step S17 flow g b next (λ steps r. given steps [] r.gives tt) i)
+  stepped_or S18 i = inl (by_step S18 flow g b next (λ steps r. one steps _ refl r.gives) i)
+
   -- all are plain, but by an assertion
   pub plain_or : (l : Line) → IsInstance flow defs g l b next → ArePlain next ⊎ Asserts flow g l b next
-  plain_or S1 i = inl (by_step S1Is flow g b next (λ steps r. one steps _ refl r.gives) i)
-  plain_or S2 i = inl (by_step S2Is flow g b next (λ steps r. one steps _ refl r.gives) i)
-  plain_or S3 i = inl (by_step S3Is flow g b next (λ steps r. one steps _ refl r.gives) i)
-  plain_or S4 i = inl (by_step S4Is flow g b next (λ steps r. one steps _ refl r.gives) i)
-  plain_or S5 i = inl (by_step S5Is flow g b next (λ steps r. one steps _ refl r.computes.gives) i)
-  plain_or S6 i = inl (by_step S6Is flow g b next (λ steps r. one steps _ refl r.computes.gives) i)
-  plain_or S7 i = inl (by_step S7Is flow g b next (λ steps r. one steps _ refl r.computes.gives) i)
-  plain_or S8 i = inl (by_step S8Is flow g b next (λ steps r. one steps _ refl r.gives) i)
-  plain_or S9 i = inl (by_step S9Is flow g b next (λ steps r. one steps _ refl r.gives) i)
-  plain_or S10 i = inl (by_step S10Is flow g b next (λ steps r. two steps _ _ refl refl r.gives) i)
-  plain_or S11 i = inl (by_step S11Is flow g b next (λ steps r. one steps _ refl r.gives) i)
-  plain_or S12 i = inl (by_step S12Is flow g b next (λ steps r. one steps _ refl r.gives) i)
-  plain_or S13 i = inl (by_step S13Is flow g b next (λ steps r. two steps _ _ refl refl r.gives) i)
-  plain_or S14 i = inl (by_step S14Is flow g b next (λ steps r. two steps _ _ refl refl r.gives) i)
-  plain_or S15 i = inl (by_step S15Is flow g b next (λ steps r. one steps _ refl r.gives) i)
-  plain_or S16 i = inr (refl, i)
-  plain_or S17 i = inl (by_step S17Is flow g b next (λ steps r. given steps [] r.gives tt) i)
-  plain_or S18 i = inl (by_step S18Is flow g b next (λ steps r. one steps _ refl r.gives) i)
+  plain_or (Step rule) i = stepped_or rule i
   plain_or (L1 edge) i = inl (of_states (with_state b) (λ s. plain) i.1.0 next i.1.2)
   plain_or (L2 edge) i = inl (of_states (with_state b) (λ s. plain) i.1.0 next i.1.2)
   plain_or (L15 edge) i = inl (of_states (with_state b) (λ s. plain) i.1.0 next i.1.2)
-  plain_or (L3 pred rule names block edges) i = inl (of_states _ (λ s. plain) i.0 next i.2)
-  plain_or (L4 pred rule names block edges call) i = inl (of_states _ (λ s. plain) i.0 next i.2)
+  plain_or (L3 fold) i = inl (of_states _ (λ s. plain) i.0 next i.2)
+  plain_or (L4 fold) i = inl (of_states _ (λ s. plain) i.0 next i.2)
   plain_or (L5 first second) i = inl (of_states _ (λ s. plain) i.0 next i.2)
   plain_or (L6 first second) i = inl (of_states _ (λ s. plain) i.0 next i.2)
   plain_or (L7 pred at args stop ends) i = inl (of_states _ (λ s. plain) i.0 next i.2)

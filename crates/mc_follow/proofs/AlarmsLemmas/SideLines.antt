@@ -20,7 +20,7 @@ use Rattle.mc_follow.specs.Ending.Making.{Opened, setting_in}
 use Rattle.mc_follow.specs.Ending.Steps.{AllMayBeNamed, AreOpened, Gives, GoalsAreMade, IsNamedOn, IsTask, Makes, MakesNext, MayBeNamed, Task, asked_for}
 use Rattle.mc_flow.specs.declared.graph.Flow.{Flow}
 use Rattle.mc_rules_logic.specs.Fold.Changed.{ForgetsNode, NamesSpare}
-use Rattle.mc_rules_logic.specs.Fold.Folded.{ClosesSeg, FoldsInd}
+use Rattle.mc_rules_logic.specs.Fold.Folded.{ClosesSeg, FoldsInd, ind_fold}
 use Rattle.mc_rules_logic.specs.Fold.Goals.{MeetsGoal}
 use Rattle.mc_kernel.specs.Branches.{IsPlain, Path, closes_by, with_state}
 use Rattle.mc_kernel.specs.Instances.{EndsFalse, EndsSide, GoalNamesNot, IsInstance}
@@ -361,21 +361,21 @@ module _ (made : GoalsAreMade) (flow : Flow) (defs : List Def) (w : Task) (other
         then_named = named w.goal under.state others rule_names
 
         module _ (bounded : IsBounded then_named.0) where
-          folds : Gives (FoldsInd defs met.goal.pred place nodes block own then_named.0) (λ t. MakesNext defs w t front left)
+          folds : Gives (FoldsInd defs (ind_fold met.goal.pred place nodes block own) then_named.0) (λ t. MakesNext defs w t front left)
           folds =
               made.fold flow.structs.list defs flow.vars w under.task then_named.0 met front own left place block def rule nodes is defined listed bounded then_named.1.consistent then_named.2 count
               (made.keep flow.structs.list defs flow.vars w under.task under.state then_named.0 (met ∷ front) (own ++ left) then_named.1.on
               (subst (λ (xs : List EdgeId). Makes defs w under.state (met ∷ front) xs) are under.makes))
 
-          pub fold_sure : IsSure flow defs (L3 met.goal.pred place nodes block own) mid
+          pub fold_sure : IsSure flow defs (L3 (ind_fold met.goal.pred place nodes block own)) mid
           fold_sure =
-              logic_sure flow defs (L3 met.goal.pred place nodes block own) mid w.goal then_named.0 others then_named.1.side (FoldsInd defs met.goal.pred place nodes block own) _ (folding mid) folds refl
+              logic_sure flow defs (L3 (ind_fold met.goal.pred place nodes block own)) mid w.goal then_named.0 others then_named.1.side (FoldsInd defs (ind_fold met.goal.pred place nodes block own)) _ (folding mid) folds refl
               (λ states r. (states, r, refl))
 
-          pub fold_met : (new : Position) → IsTurned flow defs (L3 met.goal.pred place nodes block own) mid new → (on : Bool) → TellsSound new on → (some more : List EdgeId) → reverse some ≡ left
+          pub fold_met : (new : Position) → IsTurned flow defs (L3 (ind_fold met.goal.pred place nodes block own)) mid new → (on : Bool) → TellsSound new on → (some more : List EdgeId) → reverse some ≡ left
               → PushesLast new some more → GoesOn flow defs w others new front (reverse more) on
           fold_met new turned on sound some more e pushed =
-              let u = logic_came flow defs (L3 met.goal.pred place nodes block own) mid w.goal then_named.0 others then_named.1.side (FoldsInd defs met.goal.pred place nodes block own)
+              let u = logic_came flow defs (L3 (ind_fold met.goal.pred place nodes block own)) mid w.goal then_named.0 others then_named.1.side (FoldsInd defs (ind_fold met.goal.pred place nodes block own))
               (λ t. MakesNext defs w t front left) (folding mid) folds (folding_keeps mid) new turned (λ i. i) in
               next_goes flow defs w others new front u.0 left some more on u.1 under.task sound u.2 e pushed
 
@@ -422,7 +422,7 @@ covered_at defs p goal s others at side =
 
 module _ (laws : DocumentsAreFollowed) (flow : Flow) (defs : List Def) (lines : List Line) (p : Position) (text : List ℕ) (ended : ℕ) (f : IsFollowed flow defs lines p text ended)
     (goal : Goal) (s : State) (others : List Path) (side : IsSide p goal s others) where
-  -- its state is well made, and a test tells what is derived there
+  -- its state is well made, and a test tells what is entailed there
   pub side_made : IsWellMade defs flow.vars flow.structs.list s
   side_made =
       subst (λ (t : State). IsWellMade defs flow.vars flow.structs.list t) side.state_is (told laws flow defs lines p text ended f side.first others side.branches_are).made
@@ -554,14 +554,14 @@ module _ (made : GoalsAreMade) (flow : Flow) (defs : List Def) (old : Position) 
 
       module _ (mid : Position) (bounded : AreBounded mid) (nodes : List NodeId) (named : HaveNames old mid kinds ts (Some nodes)) (own left : List EdgeId) (count : length own ≡ length rule.calls)
           (are : ids ≡ own ++ left) where
-        pub fold_line : IsAtMark flow defs old met ids → IsSure flow defs (L3 met.goal.pred place nodes block own) mid
+        pub fold_line : IsAtMark flow defs old met ids → IsSure flow defs (L3 (ind_fold met.goal.pred place nodes block own)) mid
         fold_line at =
             let all = own_names mid (Some nodes) named in
             let u = all at.w.goal at.underway.state at.others (rule_names made flow defs at.w at.others old met at.front ids at.underway place block is def rule defined listed) in
             fold_sure made flow defs at.w at.others old met at.front ids at.underway place block is def rule defined listed mid nodes all own left count are
             (bounded at.w.goal u.0 at.others u.1.side)
 
-        pub folded : (new : Position) → IsTurned flow defs (L3 met.goal.pred place nodes block own) mid new → (on : Bool) → TellsSound new on → (some more : List EdgeId) → reverse some ≡ left
+        pub folded : (new : Position) → IsTurned flow defs (L3 (ind_fold met.goal.pred place nodes block own)) mid new → (on : Bool) → TellsSound new on → (some more : List EdgeId) → reverse some ≡ left
             → PushesLast new some more → IsMarkMet flow defs met old ids new (reverse more) on
         folded new turned on sound some more e pushed w others front under =
             let all = own_names mid (Some nodes) named in

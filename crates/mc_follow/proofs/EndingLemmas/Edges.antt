@@ -1,30 +1,12 @@
 -- Edges that stay, and edges that are new, where one edge comes in the place of others.
-use Rattle.std.proofs.Common.{◌≡◌, ◌<◌, ◌≤◌, ℕ, suc, List, [], ◌∷◌, ◌++◌, Bool, true, false, ◌||◌, Option, Some, None, refl, sym, ◌∙◌, ap, subst, arith, eqb-true, eq-eqb}
+use Rattle.std.proofs.Common.{◌≡◌, ℕ, suc, List, [], ◌∷◌, ◌++◌, Bool, true, false, Some, None, refl, ◌∙◌, ap, arith, eqb-true, eq-eqb}
 use Rattle.std.specs.Prelude.{◌==◌, if◌then◌else◌}
 use Rattle.mc_base.specs.declared.ids.EdgeId.{EdgeId}
 use Rattle.mc_state.specs.declared.graph.edge.Edge.{Edge}
 use Rattle.mc_state.specs.Graph.Graph.{Edges, IdsAscend, edge_with, without}
 use Rattle.mc_state.specs.Named.{others, is_among}
-use Rattle.mc_state.proofs.Named.{kept_other}
 use Rattle.mc_state.proofs.Ids.{ids_without}
-
-or_parts : (a b : Bool) → (a || b) ≡ false → (a ≡ false) × (b ≡ false)
-or_parts true b e = absurd (cc e)
-or_parts false b e = (refl, e)
-
-turned : (a b : ℕ) → (a == b) ≡ false → (b == a) ≡ false
-turned a b e = at (b == a) refl
-  where
-    at : (c : Bool) → (b == a) ≡ c → c ≡ false
-    at true is = let same : (a == b) ≡ true = eq-eqb a b (sym (eqb-true b a is)) in cc (same, e)
-    at false is = refl
-
--- an edge that none of the ids names is still there
-pub others_keep : (es : Edges) (ids : List EdgeId) (id : EdgeId) → is_among id ids ≡ false → edge_with (others es ids) id ≡ edge_with es id
-others_keep es [] id e = refl
-others_keep es (other ∷ ids) id e =
-    let both = or_parts (other.0 == id.0) (is_among id ids) e in
-    others_keep (without es other) ids id both.1 ∙ kept_other es other id (turned other.0 id.0 both.0)
+use Rattle.mc_cover.proofs.Left.{others_keep}
 
 -- an edge in front of others
 in_front : (es : Edges) (id : EdgeId) (e : Edge) (more : Edges) → edge_with es id ≡ Some e → edge_with (es ++ more) id ≡ Some e

@@ -33,7 +33,7 @@ use Rattle.mc_state.specs.Fits.{AreNodes, ArgsFit, HaveKinds, IsWellMade}
 use Rattle.mc_state.specs.State.{State, next_node, pure_of}
 use Rattle.mc_state.specs.Terms.{plain, term_of, AreEqualTerms, AreAllEqualTerms, TermsLieIn}
 use Rattle.mc_state.proofs.Ids.{ids_without}
-use Rattle.mc_rules_logic.specs.Fold.Folded.{folded}
+use Rattle.mc_rules_logic.specs.Fold.Folded.{folded, ind_fold}
 use Rattle.mc_rules_logic.proofs.FoldLemmas.Names.{kinds_there}
 use Rattle.mc_rules_logic.specs.Fold.MadeLaws.{CloseSegStaysMade, FoldIndStaysMade, ForgetStaysMade, SpareStaysMade}
 use Rattle.mc_rules_logic.specs.Listed.Lists.{ListsAreThere}
@@ -121,7 +121,7 @@ module _ (decided : EachIsDecided) (lists : ListsAreThere) (spare_made : SpareSt
       | inr consistent ↦ k consistent
     ]
 
-    -- what was derived of terms is written
+    -- what was entailed of terms is written
     same_from : (t : State) → IsLater before t → (x y : Term) → AreEqualTerms before x y → AreSameTerms t x y
     same_from t later x y h = elim h [ inl a ↦ later.known _ a | inr wrong ↦ absurd (sound wrong) ]
 
@@ -393,10 +393,10 @@ module _ (decided : EachIsDecided) (lists : ListsAreThere) (spare_made : SpareSt
         let gone_ids = option_to_list b.0 ++ ids in
         let new : Edge = Ind r.node pred r.nodes in
         let w : State = folded v (others v.graph.edges gone_ids) new in
-        let made_w = (fold_made defs vars structs pred by.place ns b.0 ids v (w ∷ []) (structs, fit) r.instance takes.made).0 in
+        let made_w = (fold_made defs vars structs (ind_fold pred by.place ns b.0 ids) v (w ∷ []) (structs, fit) r.instance takes.made).0 in
         let own = block_own es mid left u v takes b.0 b.3 ids (all_own es mid left u u v b.2 takes ids owns) in
         let on = folds_on es left u v all gone_ids new own made_w in
-        ending.behind w (ending.folds pred by.place ns b.0 ids r.instance)
+        ending.behind w (ending.folds (ind_fold pred by.place ns b.0 ids) r.instance)
         (go w (record { 0 = v.graph.next }) (takes_from es left t u w grown same on.0) (own_from es left t u same (record { 0 = v.graph.next }) on.1)
         (record {
           node = r.node;

@@ -32,7 +32,7 @@ use Rattle.mc_state.specs.Facts.{IsFalse, Derives, AreEqual, AreAllEqual}
 use Rattle.mc_state.specs.Fits.{HaveKinds}
 use Rattle.mc_state.specs.State.{State}
 use Rattle.mc_state.specs.Terms.{plain, term_of, base_term, atom_on}
-use Rattle.mc_rules_logic.specs.Fold.Folded.{folded, FieldsMatch, BlocksMatch, CallsMatch, Matches, FoldsInd}
+use Rattle.mc_rules_logic.specs.Fold.Folded.{folded, FieldsMatch, BlocksMatch, CallsMatch, Matches, FoldsInd, ind_fold}
 use Rattle.mc_follow.specs.Ending.Ending.{Written, AreSameTerms, AreAllSameTerms, IsNamed, AreNamed, IsMadeBy, IsLater}
 use Rattle.mc_follow.proofs.EndingLemmas.Written.{derives, eq_as, ne_as, node_meets, term_meets}
 
@@ -139,7 +139,7 @@ front s (kind ∷ kinds) at args us (n ∷ ns) h =
     let p = parts s kinds args us ns h.1 in
     record { this = n; nodes = p.first; others = p.others; together = ap (λ (l : List NodeId). n ∷ l) p.together; count = p.count; same_at = term_meets s at n h.0.1; same_args = p.same }
 
--- the term behind others
+-- the term after others
 term_behind : (xs rest : List Term) (x : Term) → term_of (xs ++ x ∷ rest) (length xs) ≡ x
 term_behind [] rest x = refl
 term_behind (y ∷ xs) rest x = term_behind xs rest x
@@ -156,14 +156,14 @@ looked_both es (id ∷ ids) more (e ∷ picked) others a b = (a.0, looked_both e
 pub record Folds (defs : List Def) (s : State) (pred : PredId) (at : Term) (args : List Term) (rule : ℕ) (ns : List NodeId) (block : Option EdgeId) (ids : List EdgeId) : Type 0 where
   pub node : NodeId
   pub nodes : List NodeId
-  pub instance : FoldsInd defs pred rule ns block ids s (folded s (others s.graph.edges (option_to_list block ++ ids)) (Ind node pred nodes) ∷ [])
+  pub instance : FoldsInd defs (ind_fold pred rule ns block ids) s (folded s (others s.graph.edges (option_to_list block ++ ids)) (Ind node pred nodes) ∷ [])
   pub same_at : AreSameTerms s at (plain node)
   pub same_args : AreAllSameTerms s args (map plain nodes)
 
 module _ (defs : List Def) (fit : IsDefs defs) (before s : State) (sound : IsFalse before → ⊥) (later : IsLater before s)
     (pred : PredId) (at : Term) (args : List Term) (by : RuleTerms defs before pred at args)
     (ns : List NodeId) (named : AreNamed s by.rule.names by.names ns) where
-  -- what was derived is written
+  -- what was entailed is written
   followed : (f : Atom) → Derives before f → Written s f
   followed f h = elim h [ inl a ↦ later.known f a | inr wrong ↦ absurd (sound wrong) ]
 

@@ -1,5 +1,5 @@
 -- All that follows is written: a node for zero is named, and forgotten.
-use Rattle.std.proofs.Common.{◌≡◌, ◌⊎◌, inl, inr, ◌<◌, ℕ, zero, suc, pos, false, Option, Some, None, List, [], ◌∷◌, Contains, slice_get, refl, sym, ◌∙◌, subst, arith, eqb-true}
+use Rattle.std.proofs.Common.{◌≡◌, inl, inr, ◌<◌, ℕ, zero, suc, pos, false, Option, Some, None, List, [], ◌∷◌, Contains, slice_get, refl, ◌∙◌, subst, arith, eqb-true}
 use Rattle.std.specs.Prelude.{◌==◌, Bool, true}
 use Rattle.std.specs.List.{AllByRecursion}
 use Rattle.std.proofs.lemmas.Int.{ints}
@@ -8,48 +8,33 @@ use Rattle.mc_base.specs.declared.ids.NodeId.{NodeId}
 use Rattle.mc_base.specs.declared.plain.Atom.{Atom}
 use Rattle.mc_base.specs.declared.plain.Kind.{Kind}
 use Rattle.mc_base.specs.declared.plain.Kind.TheVariants.{Ptr}
-use Rattle.mc_base.specs.declared.plain.VarInfo.{VarInfo}
 use Rattle.mc_base.specs.Atoms.{nodes_of_atom}
 use Rattle.mc_base.specs.Nodes.{null}
-use Rattle.mc_flow.specs.declared.defs.rules.Def.{Def}
-use Rattle.mc_flow.specs.declared.defs.shapes.StructInfo.{StructInfo}
 use Rattle.mc_state.specs.declared.graph.edge.Edge.{Edge}
-use Rattle.mc_state.specs.declared.graph.edge.Edge.TheVariants.{Block, Ind, Seg}
 use Rattle.mc_state.specs.Graph.Edges.{known_nodes, nodes_of}
-use Rattle.mc_state.specs.Graph.Graph.{Edges, block_starts}
+use Rattle.mc_state.specs.Graph.Graph.{block_starts}
 use Rattle.mc_pure.specs.Derived.{Follows, base, widened}
 use Rattle.mc_pure.specs.Known.{IsFit}
 use Rattle.mc_pure.specs.Nodes.{RiseFrom}
 use Rattle.mc_pure.specs.Pure as known
-use Rattle.mc_pure.specs.Pure.{Base, HasKind, IsNode, IsWellFormed, Kinds, kind_of}
-use Rattle.mc_pure.specs.Whole.{kinds_without}
+use Rattle.mc_pure.specs.Pure.{Base, HasKind, IsNode, IsWellFormed}
 use Rattle.mc_pure.proofs.Growing.{still_there}
 use Rattle.mc_pure.proofs.Placing.{kind_at}
 use Rattle.mc_pure.proofs.True.{follows_from_more}
 use Rattle.mc_state.specs.Facts.{IsFalse, IsUnnamed}
-use Rattle.mc_state.specs.Fits.{AreNodes, NodesAscend, IsBounded, IsWellMade}
-use Rattle.mc_state.specs.State.{State, pure_of, next_node, with_nodes}
+use Rattle.mc_state.specs.Fits.{AreNodes, IsBounded}
+use Rattle.mc_state.specs.State.{State, pure_of, next_node}
 use Rattle.mc_state.proofs.Bounds.{new_nodes_have_kinds, nodes_are_below}
 use Rattle.mc_state.proofs.Lists.{all_at}
-use Rattle.mc_rules_logic.specs.Fold.Changed.{NamesSpare, ForgetsNode, IsListWithout, alone, left_over}
-use Rattle.mc_rules_logic.specs.Fold.MadeLaws.{SpareStaysMade, ForgetStaysMade}
+use Rattle.mc_rules_logic.specs.Fold.Changed.{NamesSpare, ForgetsNode, IsListWithout, left_over}
 use Rattle.mc_rules_logic.proofs.FoldLemmas.ExampleForgets.{named}
 use Rattle.mc_rules_logic.proofs.FoldLemmas.MadeNodes.{kept_kind}
 use Rattle.mc_rules_logic.proofs.FoldLemmas.Reaching.{among_all, among_from}
-use Rattle.mc_follow.specs.Ending.Ending.{Written, IsLater}
+use Rattle.mc_follow.specs.Ending.Ending.{IsLater}
 use Rattle.mc_follow.proofs.EndingLemmas.Written.{spare}
+use Rattle.mc_kernel.proofs.OracleLemmas.Known.{rises, starts_there}
 
 -- ---- what is asked of a state that is well made
-
-rises : (low : ℕ) (kinds : Kinds) (high : ℕ) → NodesAscend low kinds high → RiseFrom low kinds
-rises low [] high a = tt
-rises low (k ∷ kinds) high a = ((let l = a.0 in omega arith), rises (suc k.0.0) kinds high a.2)
-
-starts_there : (kinds : Kinds) (es : Edges) → AllByRecursion (λ e. AreNodes kinds (nodes_of e.1)) es → AllByRecursion (IsNode kinds) (block_starts es)
-starts_there kinds [] all = tt
-starts_there kinds ((id, Block at shape fields) ∷ es) all = (all.0.0, starts_there kinds es all.1)
-starts_there kinds ((id, Ind at pred args) ∷ es) all = starts_there kinds es all.1
-starts_there kinds ((id, Seg at args pred «end» ends) ∷ es) all = starts_there kinds es all.1
 
 pub made_rises : (s : State) → IsBounded s → RiseFrom 1 s.kinds
 made_rises s b = rises 1 s.kinds s.next b.kinds

@@ -59,7 +59,7 @@ module _ (kinds : Kinds) where
   fields_kinds (k ∷ ks) [] h = absurd h
   fields_kinds (k ∷ ks) (n ∷ ns) h = (h.0, fields_kinds ks ns h.1)
 
-  -- two lists, one behind the other
+  -- two lists, one after the other
   both_kinds : (ks : List Kind) (xs ys : List Term) → HaveTermKinds kinds (take (length xs) ks) xs → HaveTermKinds kinds (take (length ys) (drop (length xs) ks)) ys
       → HaveTermKinds kinds (take (length (xs ++ ys)) ks) (xs ++ ys)
   both_kinds ks [] ys a b = b

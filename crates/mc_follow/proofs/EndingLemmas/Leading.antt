@@ -206,6 +206,6 @@ module _ (w : Setting) where
       let same : rule ≡ by.0.rule = same_some rule by.0.rule (sym listed ∙ (ap (λ (d : Def). slice_get d.rules place) one ∙ p.listed)) in
       (p.contents, ap (λ (r : Rule). contents_by w.know w.edges h.at r.block block) same ∙ p.taken)
 
--- a test tells what is derived in a state
+-- a test tells what is entailed in a state
 pub told : EachIsDecided → (s : State) → IsBounded s → AllByRecursion (IsWellFormed s.kinds) s.atoms → (know : Test) × Tells know s
 told decided s bounded atoms = decided (pure_of s) (made_rises s bounded) (made_fits s bounded atoms)

@@ -32,7 +32,7 @@ use Rattle.mc_state.specs.Facts.{IsFalse, Derives}
 use Rattle.mc_state.specs.Fits.{IsBounded, IsWellMade}
 use Rattle.mc_state.specs.State.{State}
 use Rattle.mc_state.specs.Terms.{plain, term_of, AreEqualTerms, AreAllEqualTerms, TermsLieIn}
-use Rattle.mc_rules_logic.specs.Fold.Folded.{folded, ClosesSeg, FoldsInd}
+use Rattle.mc_rules_logic.specs.Fold.Folded.{folded, ClosesSeg, FoldsInd, ind_fold}
 use Rattle.mc_follow.specs.declared.ending.met.Met.{Met}
 use Rattle.mc_follow.specs.Ending.Ending.{AreNamed, AreSameTerms, AreAllSameTerms, IsGrown, IsLater, IsMadeBy}
 use Rattle.mc_follow.specs.Ending.Making.{AreMadeBy, AreNamesOf, IsMaking, Opened, marks_of, setting_in}
@@ -472,7 +472,7 @@ module _ (structs : List StructInfo) (defs : List Def) (vars : List VarInfo) (fi
 
     pub record RuleStep (t : State) (met : Met) (front : List Met) (place : ℕ) (ns : List NodeId) (block : Option EdgeId) (own ids : List EdgeId) : Type 0 where
       pub new : Edge
-      pub instance : FoldsInd defs met.goal.pred place ns block own t (fold_of t (option_to_list block ++ own) new ∷ [])
+      pub instance : FoldsInd defs (ind_fold met.goal.pred place ns block own) t (fold_of t (option_to_list block ++ own) new ∷ [])
       pub making : Making (fold_of t (option_to_list block ++ own) new) front (next_id t ∷ ids)
 
     pub rule_step : (t : State) → IsBounded t → (IsFalse t → ⊥) → (met : Met) (front : List Met) (place : ℕ) (block : Option EdgeId) (by : Named) → met.mark ≡ ByRule place block → rule_at w met.goal place block ≡ Some by
@@ -529,7 +529,7 @@ module _ (structs : List StructInfo) (defs : List Def) (vars : List VarInfo) (fi
         let c : length (map (goal_of by.names None) by.rule.calls) ≡ length by.rule.calls = length-map by.rule.calls (goal_of by.names None) in
         omega arith
 
-    -- behind a segment one edge is made
+    -- after a segment one edge is made
     pub rest_there : (t : State) (met : Met) (front : List Met) (id : EdgeId) → met.mark ≡ BySeg id → Making t (met ∷ front) [] → ⊥
     rest_there t met front id is_mark m =
         let o = m.opened in

@@ -16,7 +16,7 @@ use Rattle.mc_flow.specs.declared.defs.rules.Def.{Def}
 use Rattle.mc_flow.specs.declared.defs.rules.Rule.{Rule}
 use Rattle.mc_flow.specs.declared.defs.shapes.StructInfo.{StructInfo}
 use Rattle.mc_rules_logic.specs.Fold.Changed.{ForgetsNode, IsListWithout, NamesSpare}
-use Rattle.mc_rules_logic.specs.Fold.Folded.{ClosesSeg, FoldsInd, folded}
+use Rattle.mc_rules_logic.specs.Fold.Folded.{ClosesSeg, FoldsInd, folded, ind_fold}
 use Rattle.mc_rules_logic.specs.Fold.Goals.{MeetsGoal}
 use Rattle.mc_rules_logic.specs.Fold.Laws.{CloseSegIsDetermined, FoldIndIsDetermined, ForgetIsDetermined, SpareIsDetermined}
 use Rattle.mc_rules_logic.specs.Fold.MadeLaws.{SpareStaysMade}
@@ -143,7 +143,7 @@ module _ (structs : List StructInfo) (defs : List Def) (vars : List VarInfo) (w 
 
   rule_folded : FoldIndIsDetermined → (s : State) (met : Met) (front : List Met) (own ids : List EdgeId) (place : ℕ) (block : Option EdgeId) (def : Def) (rule : Rule) (nodes : List NodeId)
       → met.mark ≡ ByRule place block → slice_get defs met.goal.pred.0 ≡ Some def → slice_get def.rules place ≡ Some rule → IsBounded s → (IsFalse s → ⊥) → AreNamed s rule.names met.names.items nodes
-      → length own ≡ length rule.calls → Makes defs w s (met ∷ front) (own ++ ids) → Gives (FoldsInd defs met.goal.pred place nodes block own s) (λ t. MakesNext defs w t front ids)
+      → length own ≡ length rule.calls → Makes defs w s (met ∷ front) (own ++ ids) → Gives (FoldsInd defs (ind_fold met.goal.pred place nodes block own) s) (λ t. MakesNext defs w t front ids)
   rule_folded one s met front own ids place block def rule nodes is_mark defined listed bounded consistent named count m =
       let r = rule_of s met front (own ++ ids) place block is_mark m in
       let p = rule_parts setting met.goal place block r.by r.is in
@@ -152,8 +152,8 @@ module _ (structs : List StructInfo) (defs : List Def) (vars : List VarInfo) (w 
       let own_names : AreNamed s r.by.rule.names r.by.names nodes = subst (λ (x : Rule). AreNamed s x.names r.by.names nodes) same (subst (λ (ts : List Term). AreNamed s rule.names ts nodes) r.names named) in
       let step = machine.rule_step structs defs vars task.fit w.know w.before task.made task.tells task.sound (asked_for w.goal) asked s bounded consistent met front place block r.by is_mark r.is nodes own_names
       own ids (count ∙ ap (λ (x : Rule). length x.calls) same) m in
-      gives_one (FoldsInd defs met.goal.pred place nodes block own s) (λ t. MakesNext defs w t front ids) (folded s (others s.graph.edges (option_to_list block ++ own)) step.new) step.instance
-      (λ next other a b. one defs met.goal.pred place nodes block own s next other a b)
+      gives_one (FoldsInd defs (ind_fold met.goal.pred place nodes block own) s) (λ t. MakesNext defs w t front ids) (folded s (others s.graph.edges (option_to_list block ++ own)) step.new) step.instance
+      (λ next other a b. one defs (ind_fold met.goal.pred place nodes block own) s next other a b)
       (record { id = record { 0 = s.graph.next }; edge = step.new; older = others s.graph.edges (option_to_list block ++ own); edges_are = refl; makes = step.making })
 
   -- ---- the end

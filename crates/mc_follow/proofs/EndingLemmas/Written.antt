@@ -1,4 +1,4 @@
--- What is written stays, and is derived.
+-- What is written stays, and is entailed.
 use Rattle.std.proofs.Common.{◌≡◌, inl, ℕ, ℤ, pos, ◌+ℤ◌, ◌-ℤ◌, neg_ℤ, List, [], ◌∷◌, ◌++◌, length, slice_get, Some, sym, subst, arith}
 use Rattle.std.proofs.lemmas.Int.{ints}
 use Rattle.mc_base.specs.declared.ids.NodeId.{NodeId}
@@ -22,7 +22,7 @@ use Rattle.mc_state.proofs.Bounds.{new_nodes_have_kinds}
 use Rattle.mc_rules_logic.specs.Fold.Changed.{alone}
 use Rattle.mc_follow.specs.Ending.Ending.{Written, AreSameTerms, AreAllSameTerms, IsNamed, AreNamed, IsGrown, IsLater}
 
--- ---- what is written is derived
+-- ---- what is written is entailed
 
 pub derived : (s : State) (f : Atom) → Written s f → Follows (pure_of s) f
 derived s f h = follows_from_more (alone s) (pure_of s) (λ n is. is) bases f h

@@ -1,4 +1,4 @@
--- What is told by lines.
+-- What is known by lines.
 use Rattle.std.proofs.Common.{◌≡◌, ◌++◌, ◌∙◌, ℕ, List, Some, ap, subst, append_assoc}
 use Rattle.std.specs.Prelude.{Option, Result, Ok, Err, OnOk, codes}
 use Rattle.mc_base.specs.declared.ids.NodeId.{NodeId}
@@ -27,7 +27,7 @@ behind out own node gap name mid last new is_mid is_last is_new =
     ∙ ap (λ (t : List ℕ). t ++ name) (is_last ∙ ap (λ (t : List ℕ). t ++ gap) is_mid ∙ append_assoc out (own ++ node) gap)
     ∙ append_assoc out ((own ++ node) ++ gap) name
 
--- the name of a field behind the rest
+-- the name of a field after the rest
 pub field_told : (flow : Flow) (p : PointId) (n : NodeId) (f : ℕ) (structs : List StructInfo) (shape : Option StructId) (out mid last new : Text)
     → structs ≡ flow.structs.list → shape ≡ read_struct (code_at flow p)
     → mid ≡ out ++ (codes "UninitField " ++ node_text n) → last ≡ mid ++ codes " " → new ≡ last ++ field_name structs shape f

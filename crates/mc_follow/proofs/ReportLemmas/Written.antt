@@ -103,7 +103,7 @@ next_left lines place own heads within is left =
     ∙ left
 
 module _ (flow : Flow) (defs : List Def) where
-  -- a line more behind those of heads
+  -- a line more after those of heads
   pub one_more : (before heads : List WrittenHead) (h : WrittenHead) (text line : Text) → AreHeadLines flow defs before heads text
       → IsHeadLine flow defs (heads_at h.0 (before ++ heads)) h line → AreHeadLines flow defs before (heads ++ h ∷ []) (text ++ line)
   one_more before [] h text line none is =

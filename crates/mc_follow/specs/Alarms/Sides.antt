@@ -24,7 +24,7 @@ use Rattle.mc_state.specs.Terms.{plain}
 
 -- ---- the first branch
 
--- the first branch is a side branch with this goal and this state, and these are behind it
+-- the first branch is a side branch with this goal and this state, and these are after it
 pub record IsSide (p : Position) (goal : Goal) (s : State) (others : List Path) : Type 0 where
   pub first : Path
   pub branches_are : p.branches ≡ first ∷ others
@@ -50,7 +50,7 @@ IsLastEdge p answer =
     (goal : Goal) (s : State) (others : List Path) (older : Edges) (id : EdgeId) (e : Edge) → IsSide p goal s others
     → s.graph.edges ≡ older ++ (id, e) ∷ [] → answer ≡ Some id
 
--- that edge is put behind others
+-- that edge is put after others
 abbrev pub PushesLast : Position → List EdgeId → List EdgeId → Type 0
 PushesLast p old new =
     (goal : Goal) (s : State) (others : List Path) (older : Edges) (id : EdgeId) (e : Edge) → IsSide p goal s others

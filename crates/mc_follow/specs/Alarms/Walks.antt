@@ -2,6 +2,7 @@
 use Rattle.std.specs.Prelude.{◌≡◌, ◌+◌, ℕ, Bool, true, false, List, [], ◌∷◌, ◌++◌, Option, Some, None, Ok, map, option_and_then}
 use Rattle.std.specs.List.{AllByRecursion}
 use Rattle.mc_base.specs.declared.plain.Kind.TheVariants.{Ptr}
+use Rattle.mc_state.specs.declared.line.InstrRule.TheVariants.{S17}
 use Rattle.mc_lines.specs.declared.cert.line.Line.{Line}
 use Rattle.mc_lines.specs.declared.cert.line.Line.TheVariants as line
 use Rattle.mc_flow.specs.declared.defs.rules.Def.{Def}
@@ -48,7 +49,7 @@ goes_on other = true
 
 -- how many branches a line ends, whatever rules a predicate has
 abbrev pub ending : Line → ℕ
-ending line.S17 = 1
+ending (line.Step S17) = 1
 ending line.L12 = 1
 ending (line.L13 j images edges) = 1
 ending (line.L14 edge) = 1
@@ -87,7 +88,7 @@ AreCovered defs branches = AllByRecursion (λ b. (goal : Goal) → b.goal ≡ So
 
 -- ---- walks
 
--- whoever judges rightly, the lines behind the header are read up to here, and the text is the lines of the stuck branches
+-- whoever judges rightly, the lines after the header are read up to here, and the text is the lines of the stuck branches
 pub record IsReadTo (k : Knowledge) (well : RawState → Bool) (flow : Flow) (defs : List Def) (lines : List Line) (p : Position)
     (text : List ℕ) : Type 0 where
   pub last : Reading
@@ -95,7 +96,7 @@ pub record IsReadTo (k : Knowledge) (well : RawState → Bool) (flow : Flow) (de
   pub stands : Stands k well last p
   pub alarms : AreAlarmLines flow defs last.stuck text
 
--- the lines are those of a chain of a valid flow graph, which is read up to here behind its pass, with so many ended
+-- the lines are those of a chain of a valid flow graph, which is read up to here after its pass, with so many ended
 -- branches
 pub record IsFollowed (flow : Flow) (defs : List Def) (lines : List Line) (p : Position) (text : List ℕ) (ended : ℕ) : Type 0 where
   pub valid : IsValid flow defs

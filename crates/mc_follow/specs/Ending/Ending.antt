@@ -1,5 +1,5 @@
 -- How the state of a side branch grows, and what ends the branch.
-use Rattle.std.specs.Prelude.{◌≡◌, ◌-ℤ◌, ℤ, ℕ, List, [], ◌∷◌, Option, Some, Contains, map}
+use Rattle.std.specs.Prelude.{◌≡◌, ◌-ℤ◌, ℤ, List, [], ◌∷◌, Some, Contains, map}
 use Rattle.mc_base.specs.declared.ids.EdgeId.{EdgeId}
 use Rattle.mc_base.specs.declared.ids.NodeId.{NodeId}
 use Rattle.mc_base.specs.declared.ids.PredId.{PredId}
@@ -14,6 +14,7 @@ use Rattle.mc_pure.specs.Pure.{HasKind}
 use Rattle.mc_state.specs.declared.goal.Goal.{Goal}
 use Rattle.mc_state.specs.declared.terms.Term.{Term}
 use Rattle.mc_state.specs.Facts.{IsFalse}
+use Rattle.mc_state.specs.declared.line.FoldInd.{FoldInd}
 use Rattle.mc_state.specs.State.{State, pure_of}
 use Rattle.mc_state.specs.Terms.{plain}
 use Rattle.mc_rules_logic.specs.Fold.Changed.{NamesSpare, ForgetsNode, alone}
@@ -71,8 +72,7 @@ pub record IsLater (before s : State) : Type 0 where
 -- does not name is forgotten
 pub data Turns (defs : List Def) (goal : Goal) (s t : State) : Type 0 where
   names : (node : NodeId) (add : ℤ) (kind : Kind) → NamesSpare node add kind s (t ∷ []) → Turns defs goal s t
-  folds : (pred : PredId) (rule : ℕ) (nodes : List NodeId) (block : Option EdgeId) (edges : List EdgeId)
-      → FoldsInd defs pred rule nodes block edges s (t ∷ []) → Turns defs goal s t
+  folds : (fold : FoldInd) → FoldsInd defs fold s (t ∷ []) → Turns defs goal s t
   closes : (first second : EdgeId) → ClosesSeg first second s (t ∷ []) → Turns defs goal s t
   forgets : (node : NodeId) → (Contains (goal.at ∷ goal.args) node → ⊥) → ForgetsNode node s (t ∷ []) → Turns defs goal s t
 

@@ -71,7 +71,7 @@ fields_of_block (Some (Block at shape fields)) = all_there fields
 fields_of_block (Some (Ind at pred args)) = None
 fields_of_block (Some (Seg at args pred «end» ends)) = None
 
--- marks lead from open goals to an end, behind marks that were taken before, the last one first
+-- marks lead from open goals to an end, after marks that were taken before, the last one first
 abbrev pub LeadsOn : Setting → List Mark → List Mark → List Goal → Type 0
 LeadsOn w taken [] open_goals = open_goals ≡ []
 LeadsOn w taken (m ∷ ms) [] = ⊥

@@ -14,7 +14,7 @@ use Rattle.mc_flow.specs.declared.defs.rules.Def.{Def}
 use Rattle.mc_flow.specs.declared.defs.rules.Rule.{Rule}
 use Rattle.mc_flow.specs.declared.defs.shapes.StructInfo.{StructInfo}
 use Rattle.mc_rules_logic.specs.Fold.Changed.{ForgetsNode, NamesSpare}
-use Rattle.mc_rules_logic.specs.Fold.Folded.{ClosesSeg, FoldsInd}
+use Rattle.mc_rules_logic.specs.Fold.Folded.{ClosesSeg, FoldsInd, ind_fold}
 use Rattle.mc_rules_logic.specs.Fold.Goals.{MeetsGoal}
 use Rattle.mc_state.specs.declared.graph.edge.Edge.{Edge}
 use Rattle.mc_state.specs.Graph.Graph.{Edges}
@@ -32,7 +32,7 @@ use Rattle.mc_follow.specs.Ending.Making.{IsMaking, Opened, setting_in}
 
 -- ---- what is made
 
--- a goal of a side branch, of the edges of a state, where a test tells what is derived
+-- a goal of a side branch, of the edges of a state, where a test tells what is entailed
 pub record Task : Type 0 where
   pub know : Test
   pub before : State
@@ -150,7 +150,7 @@ RulesAreFolded =
     → slice_get def.rules place ≡ Some rule
     → IsBounded s → (IsFalse s → ⊥) → AreNamed s rule.names met.names.items nodes → length own ≡ length rule.calls
     → Makes defs w s (met ∷ front) (own ++ ids)
-    → Gives (FoldsInd defs met.goal.pred place nodes block own s) (λ t. MakesNext defs w t front ids)
+    → Gives (FoldsInd defs (ind_fold met.goal.pred place nodes block own) s) (λ t. MakesNext defs w t front ids)
 
 -- no goal is met by a mark of a segment
 abbrev pub NoOtherMarks : Type 0

@@ -91,7 +91,7 @@ IsChainReport flow defs stuck text = (lines : Text) × AreAlarmLines flow defs s
 abbrev pub heads_at : PointId → List WrittenHead → ℕ
 heads_at p heads = length (states_at p (states_of heads))
 
--- the text is the lines of heads that stand behind others, each numbered at its cut from 0
+-- the text is the lines of heads that stand after others, each numbered at its cut from 0
 abbrev pub AreHeadLines : Flow → List Def → List WrittenHead → List WrittenHead → Text → Type 0
 AreHeadLines flow defs before [] text = text ≡ []
 AreHeadLines flow defs before (h ∷ heads) text =

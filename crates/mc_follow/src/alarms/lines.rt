@@ -3,6 +3,7 @@ ghost use Rattle.std.specs.Prelude.{◌≡◌};
 ghost use Rattle.mc_follow.specs.Alarms.Walks.{ending, goes_on};
 
 use mc_lines::cert::Line;
+use mc_state::InstrRule;
 
 /// Whether a line is one of a rule that ends no branch as stuck.
 pub fn goes_on(line: &Line) -> bool
@@ -24,7 +25,7 @@ pub fn ending(line: &Line) -> u64
     ensures { result ≡ ending line.now }
 {
     match line {
-        Line::S17 => 1,
+        Line::Step(InstrRule::S17) => 1,
         Line::L12 => 1,
         Line::L13(_, _, _) => 1,
         Line::L14(_) => 1,

@@ -16,7 +16,7 @@ use mc_cover::search::{cover, plain, plain_terms};
 use mc_cover::{Goal, Mark, none_is_missed};
 use mc_flow::{Defs, Flow};
 use mc_lines::cert::Line;
-use mc_state::{Goal as SideGoal, Term};
+use mc_state::{FoldInd, Goal as SideGoal, Term};
 use mc_symbolic::State;
 use std::alloc::Global;
 
@@ -288,14 +288,14 @@ impl Walk<'_> {
             None => return Ok(false),
         };
         let calls = take_edges(self.alloc, made, rule.calls.len())?;
-        let line = Line::L3(
+        let fold = FoldInd {
             pred,
-            place as u64,
-            Items::of(names),
+            rule: place as u64,
+            names: Items::of(names),
             block,
-            Items::of(calls),
-        );
-        let folded = self.make(flow, defs, line, made)?;
+            edges: Items::of(calls),
+        };
+        let folded = self.make(flow, defs, Line::L3(fold), made)?;
         Ok(folded)
     }
 
@@ -316,7 +316,7 @@ impl Walk<'_> {
             (IsMarkMet flow.now defs.now met.now self.old.proof (reverse made.old.items) self.new.proof
             (reverse made.new.items)) }
     {
-        // For the proof alone: what is behind the segment is made, and it closes.
+        // For the proof alone: what is after the segment is made, and it closes.
         documents_are_followed();
         goals_are_made();
         match take_edge(made) {

@@ -81,10 +81,7 @@ fn push_block(names: &mut Vec<Term>, edge: Option<&Edge>) -> Result<bool, NoMemo
         ≡ option_map (λ nodes. names.old.items ++ map plain nodes) (fields_of_block (option_copied edge.entry))) }
 {
     match edge {
-        Some(Edge::Block { fields, .. }) => {
-            let all = push_fields(names, fields.as_slice())?;
-            Ok(all)
-        }
+        Some(Edge::Block { fields, .. }) => push_fields(names, fields.as_slice()),
         Some(Edge::Ind { .. }) => Ok(false),
         Some(Edge::Seg { .. }) => Ok(false),
         None => Ok(false),

@@ -52,7 +52,7 @@ fn push_calls(
     Ok(())
 }
 
-// What is left to be made behind a segment.
+// What is left to be made after a segment.
 fn behind(alloc: Global, goal: &Goal, edge: Option<&Edge>) -> Result<Goal, NoMemory>
     requires { (know : Test) × (is_seg know goal.now (option_copied edge) ≡ true) }
     ensures { IfOk result (λ next. behind_seg (record goal.now { stop = None }) (option_copied edge.entry) ≡ next ∷ []) }
@@ -147,10 +147,7 @@ fn open_mark(
             open_seg(alloc, state, goal, seg, open)?;
             Ok(Vec::new(alloc))
         }
-        Mark::ByRule { place, block } => {
-            let names = open_rule(alloc, state, defs, goal, place, block, open)?;
-            Ok(names)
-        }
+        Mark::ByRule { place, block } => open_rule(alloc, state, defs, goal, place, block, open),
         Mark::AtEnd => unreachable!(),
         Mark::ByCall { .. } => unreachable!(),
     }
@@ -169,7 +166,7 @@ pub fn all_met(
     ensures { IfOk result (λ mets. (know : Test) → Tells know state.now
         → Opened (setting_in know defs.now state.now) first (reverse mets.items) []) }
 {
-    // For the proof alone: a test tells what is derived in the state.
+    // For the proof alone: a test tells what is entailed in the state.
     each_is_decided();
     state.is_bounded();
     let mut open = Vec::new(alloc);

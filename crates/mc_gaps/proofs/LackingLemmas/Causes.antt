@@ -73,14 +73,14 @@ module _ (defs : List Def) (s : State) where
 -- ---- at a point
 
 module _ (flow : Flow) (defs : List Def) (p : PointId) (s : State) where
-  -- what is unmet by another cause than a shape is told
+  -- what is unmet by another cause than a shape is known
   pub told : CausesAreOne → (own : Option Gap) → ((gap : Gap) → (own ≡ Some gap) ↔ (IsUnmet flow defs p s gap × IsNoShape gap))
       → (g : Gap) → own ≡ Some g → (gap : Gap) → (Some g ≡ Some gap) ↔ IsUnmet flow defs p s gap
   told once own tells g is gap =
       let here = ((tells g).0 is).0 in
       (λ e. let same : g ≡ gap = cc e in subst (IsUnmet flow defs p s) same here, λ u. ap (λ (k : Gap). Some k) (once flow defs p s g gap here u))
 
-  -- where none is told, what is unmet lacks a shape
+  -- where none is known, what is unmet lacks a shape
   pub shape_left : (own : Option Gap) → ((gap : Gap) → (own ≡ Some gap) ↔ (IsUnmet flow defs p s gap × IsNoShape gap)) → own ≡ None → (gap : Gap) → IsUnmet flow defs p s gap → IsShape gap
   shape_left own tells is gap u = elim (kind_of gap) [ inl shape ↦ shape | inr plain ↦ absurd (let there = (tells gap).1 (u, plain) in cc) ]
 

@@ -7,29 +7,11 @@ ghost use Rattle.mc_gaps.specs.Lacking.Lacking.{HasNoCover};
 use crate::lacking::laws::is_told;
 use mc_base::{NoMemory, NodeId, PredId};
 use mc_cover::none_is_missed;
-use mc_cover::search::cover;
+use mc_cover::search::{cover, plain, plain_terms};
 use mc_flow::defs::Defs;
 use mc_state::Term;
 use mc_symbolic::State;
 use std::alloc::Global;
-
-/// A node alone.
-fn plain(node: NodeId) -> Term
-    ensures { result ≡ plain node }
-{
-    Term { node, add: 0 }
-}
-
-/// Nodes as terms.
-fn plain_terms(alloc: Global, nodes: &[NodeId]) -> Result<Vec<Term>, NoMemory>
-    ensures { IfOk result (λ terms. terms.items ≡ map plain nodes.now) }
-{
-    let mut terms = Vec::new(alloc);
-    for node in nodes {
-        terms.push(plain(*node))?;
-    }
-    Ok(terms)
-}
 
 /// Whether no edges of a state make the predicate at a node with arguments.
 pub fn has_no_cover(

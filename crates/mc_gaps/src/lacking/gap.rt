@@ -77,7 +77,7 @@ pub fn lacking_at(
     requires { IsValid flow.now defs.now }
     ensures { IfOk result (λ found. (gap : Gap) → (found ≡ Some gap) ↔ IsUnmet flow.now defs.now p s.now gap) }
 {
-    // For the proof alone: all gaps but shapes are told, and there is one at most.
+    // For the proof alone: all gaps but shapes are known, and there is one at most.
     gaps_are_told();
     causes_are_one();
     is_told(s);

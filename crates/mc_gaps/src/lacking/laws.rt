@@ -3,7 +3,7 @@ ghost use Rattle.mc_state.specs.Known.{Test, Tells};
 
 use mc_symbolic::State;
 
-/// A state has a test that tells what is derived of it.
+/// A state has a test that tells what is entailed of it.
 pub fn is_told(s: &State)
     ensures { (know : Test) × Tells know s.now }
 {

@@ -4,11 +4,9 @@ ghost use Rattle.mc_state.specs.Known.{Test, Tells};
 ghost use Rattle.mc_state.specs.State.{var_node};
 ghost use Rattle.mc_gaps.specs.Unmet.Gaps.{block_gap, field_gap, free_gap, freed_gap, empty_gap, lacking, gap_of, gap_at};
 
-use crate::unmet::searches::{
-    NULL, all_at_null, any_block, any_lacks_field, any_shaped, any_unfolds,
-};
+use crate::unmet::searches::{all_at_null, any_block, any_lacks_field, any_shaped, any_unfolds};
 use crate::unmet::unknown::first_unknown;
-use mc_base::{NodeId, PointId, StructId, VarId};
+use mc_base::{NULL, NodeId, PointId, StructId, VarId};
 use mc_flow::defs::Def;
 use mc_flow::{Flow, Instr, Operand};
 use mc_rules_steps::Gap;

@@ -8,12 +8,10 @@ ghost use Rattle.mc_rules_steps.specs.Judges.{is_block, is_shaped_at, is_block_a
 ghost use Rattle.mc_gaps.specs.Unmet.Gaps.{may_unfold, is_unknown, lacks_field};
 
 use mc_apply_unfold::{Segment, is_reached_back};
-use mc_base::{EdgeId, NodeId, StructId};
+use mc_base::{EdgeId, NULL, NodeId, StructId};
 use mc_flow::defs::Def;
 use mc_state::graph::Edge;
 use mc_symbolic::State;
-
-pub const NULL: NodeId = NodeId(0);
 
 /// Whether an edge may be unfolded where a node is accessed.
 fn may_unfold(s: &State, defs: &[Def], node: NodeId, edge: &(EdgeId, Edge)) -> bool

@@ -58,7 +58,7 @@ starts_return f back kinds others r es news a e place m h =
     let same : moved back m ≡ n = ap (moved back) (sym found.2) ∙ ap number (r.comes_back n there) in
     found.1 ∙ ap (λ (z : NodeId). Some z) (sym same)
 
--- ---- what is derived goes with the nodes
+-- ---- what is entailed goes with the nodes
 
 either : (q : Pure) (g : Atom → Atom) (atoms : List Atom) → ((place : ℕ) (a : Atom) → slice_get atoms place ≡ Some a → Derived q (g a)) → IsFalse q ⊎ ((place : ℕ) (a : Atom) → slice_get atoms place ≡ Some a → Follows q (g a))
 either q g [] h = inr (λ place a e. absurd (cc e))

@@ -21,9 +21,10 @@ use Rattle.mc_state.specs.Fits.{AreNodes, IsBounded}
 use Rattle.mc_state.specs.Laws.{moved_kinds}
 use Rattle.mc_joins.specs.Same.Same.{place_from, anew, numbered_graph}
 use Rattle.mc_joins.specs.Anew.Numbers.{AreNumbers, numbered_nodes}
-use Rattle.mc_joins.proofs.AnewLemmas.Lists.{same_node, yes, no, all_over, long_map}
+use Rattle.mc_joins.proofs.AnewLemmas.Lists.{all_over, long_map}
 use Rattle.mc_joins.proofs.AnewLemmas.Numbering.{below_none}
 use Rattle.mc_joins.proofs.AnewLemmas.Filling.{graph_of}
+use Rattle.mc_pure.proofs.Changing.{no, same_node, yes}
 
 -- ---- places
 

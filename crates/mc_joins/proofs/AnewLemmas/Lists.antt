@@ -3,19 +3,6 @@ use Rattle.std.proofs.Common.{◌≡◌, ◌≢◌, ◌⊎◌, ℕ, zero, suc, �
 use Rattle.std.specs.Prelude.{slice_set}
 use Rattle.std.specs.List.{AllByRecursion}
 use Rattle.std.proofs.lemmas.Bool.Decides.{nat_tests}
-use Rattle.mc_base.specs.declared.ids.NodeId.{NodeId}
-
-pub same_node : (a b : NodeId) → a.0 ≡ b.0 → a ≡ b
-same_node a b e = ap (λ (n : ℕ). let x : NodeId = record { 0 = n } in x) e
-
-pub number : {a b : NodeId} → a ≡ b → a.0 ≡ b.0
-number e = ap (λ (n : NodeId). n.0) e
-
-pub yes : (a b : ℕ) → a ≡ b → nat_eq a b ≡ true
-yes a b e = grind (arith, nat_tests)
-
-pub no : (a b : ℕ) → a ≢ b → nat_eq a b ≡ false
-no a b e = grind (arith, nat_tests)
 
 pub is_yes : (a b : ℕ) → nat_eq a b ≡ true → a ≡ b
 is_yes a b e = grind (arith, nat_tests)

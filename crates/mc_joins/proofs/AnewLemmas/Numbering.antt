@@ -13,7 +13,8 @@ use Rattle.mc_state.specs.State.{State, unknown, with_nodes, next_node}
 use Rattle.mc_state.specs.Laws.{moved_kinds}
 use Rattle.mc_joins.specs.Same.Same.{place_from}
 use Rattle.mc_joins.specs.Anew.Numbers.{AreNumbers, number_of, numbered_nodes, first_kinds}
-use Rattle.mc_joins.proofs.AnewLemmas.Lists.{yes, no, decide, take_all, long_map}
+use Rattle.mc_joins.proofs.AnewLemmas.Lists.{decide, take_all, long_map}
+use Rattle.mc_pure.proofs.Changing.{no, yes}
 
 some_none : {X : Type 0} {x : X} → Some x ≡ None → ⊥
 some_none e = cc

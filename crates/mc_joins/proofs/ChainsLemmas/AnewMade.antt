@@ -1,12 +1,11 @@
 -- A well-made state that is numbered anew is well made.
-use Rattle.std.proofs.Common.{◌≡◌, ◌<◌, ◌≤◌, ℕ, suc, List, [], ◌∷◌, Bool, true, false, Option, Some, None, length, map, refl, ap, sym, ◌∙◌, inl, inr, arith, eqb-true, eq-eqb}
-use Rattle.std.specs.Prelude.{◌==◌, option_map, if◌then◌else◌}
+use Rattle.std.proofs.Common.{◌≡◌, ◌<◌, ◌≤◌, ℕ, suc, List, [], ◌∷◌, Bool, true, false, Some, map, refl, ap, sym, ◌∙◌, inl, inr, arith, eqb-true, eq-eqb}
+use Rattle.std.specs.Prelude.{◌==◌, if◌then◌else◌}
 use Rattle.std.specs.List.{AllByRecursion}
 use Rattle.std.proofs.lemmas.Bool.{ne_eqb}
 use Rattle.mc_base.specs.declared.ids.EdgeId.{EdgeId}
 use Rattle.mc_base.specs.declared.ids.NodeId.{NodeId}
 use Rattle.mc_base.specs.declared.plain.Kind.{Kind}
-use Rattle.mc_base.specs.declared.plain.Kind.TheVariants.{Ptr}
 use Rattle.mc_base.specs.declared.plain.Atom.{Atom}
 use Rattle.mc_base.specs.declared.plain.Atom.TheVariants.{Eq, Ne, In}
 use Rattle.mc_base.specs.declared.plain.VarInfo.{VarInfo}
@@ -15,51 +14,19 @@ use Rattle.mc_base.specs.Nodes.{moved}
 use Rattle.mc_flow.specs.declared.defs.rules.Def.{Def}
 use Rattle.mc_flow.specs.declared.defs.shapes.StructInfo.{StructInfo}
 use Rattle.mc_state.specs.declared.graph.edge.Edge.{Edge}
-use Rattle.mc_state.specs.declared.graph.edge.Edge.TheVariants.{Block, Ind, Seg}
 use Rattle.mc_state.specs.Graph.Edges.{moved_edge}
 use Rattle.mc_state.specs.Graph.Graph.{Edges, numbered}
 use Rattle.mc_pure.specs.Pure.{Kinds, HasKind, IsWellFormed, kind_of}
-use Rattle.mc_state.specs.Fits.{HaveKinds, MayHaveKinds, EdgeFitsDefs, EdgeFitsStructs, NodesAscend, IsWellMade}
+use Rattle.mc_state.specs.Fits.{EdgeFitsDefs, EdgeFitsStructs, NodesAscend, IsWellMade}
 use Rattle.mc_state.specs.Laws.{moved_kinds}
 use Rattle.mc_state.specs.State.{State}
 use Rattle.mc_joins.specs.Same.Laws.{AnewIsBounded}
 use Rattle.mc_joins.specs.Same.Same.{place_from, place_in, anew}
+use Rattle.mc_rules_logic.proofs.FoldLemmas.MadeNodes.{defs_moved, may_moved, structs_moved}
 
 -- ---- nodes that are moved have their kinds there
 
 module _ (f : ℕ → ℕ) (kinds others : Kinds) (more : (kind : Kind) (n : NodeId) → HasKind kinds kind n → HasKind others kind (moved f n)) where
-  have_moved : (ks : List Kind) (ns : List NodeId) → HaveKinds kinds ks ns → HaveKinds others ks (map (moved f) ns)
-  have_moved [] [] h = tt
-  have_moved [] (n ∷ ns) h = absurd h
-  have_moved (k ∷ ks) [] h = absurd h
-  have_moved (k ∷ ks) (n ∷ ns) h = (more k n h.0, have_moved ks ns h.1)
-
-  may_moved : (ks : List Kind) (ns : List (Option NodeId)) → MayHaveKinds kinds ks ns → MayHaveKinds others ks (map (option_map (moved f)) ns)
-  may_moved [] [] h = tt
-  may_moved [] (n ∷ ns) h = absurd h
-  may_moved (k ∷ ks) [] h = absurd h
-  may_moved (k ∷ ks) (None ∷ ns) h = (tt, may_moved ks ns h.1)
-  may_moved (k ∷ ks) (Some n ∷ ns) h = (more k n h.0, may_moved ks ns h.1)
-
-  count_moved : (ns : List (Option NodeId)) → length (map (option_map (moved f)) ns) ≡ length ns
-  count_moved [] = refl
-  count_moved (n ∷ ns) = ap suc (count_moved ns)
-
-  defs_moved : (defs : List Def) (e : Edge) → EdgeFitsDefs defs kinds e → EdgeFitsDefs defs others (moved_edge f e)
-  defs_moved defs (Block at shape fields) h = (more Ptr at h.0, λ p r def rule d l b. count_moved fields ∙ h.1 p r def rule d l b)
-  defs_moved defs (Ind at pred args) h = (more Ptr at h.0, (h.1.0, h.1.1, have_moved h.1.0.params args h.1.2))
-  defs_moved defs (Seg at args pred stop ends) h = (
-    more Ptr at h.0,
-    (h.1.0, h.1.1, have_moved h.1.0.params args h.1.2),
-    more Ptr stop h.2,
-    (h.3.0, h.3.1, have_moved h.3.0.params ends h.3.2),
-  )
-
-  structs_moved : (structs : List StructInfo) (e : Edge) → EdgeFitsStructs structs kinds e → EdgeFitsStructs structs others (moved_edge f e)
-  structs_moved structs (Block at shape fields) h = (h.0, h.1, may_moved (map (λ x. x.kind) h.0.fields) fields h.2)
-  structs_moved structs (Ind at pred args) h = tt
-  structs_moved structs (Seg at args pred stop ends) h = tt
-
   well_moved : (a : Atom) → IsWellFormed kinds a → IsWellFormed others (moved_atom f a)
   well_moved (Eq a b c) w = ((w.0.0, more w.0.0 a w.0.1, more w.0.0 b w.0.2), w.1)
   well_moved (Ne a b c) w = ((w.0.0, more w.0.0 a w.0.1, more w.0.0 b w.0.2), w.1)

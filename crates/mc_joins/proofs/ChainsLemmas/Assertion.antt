@@ -1,6 +1,6 @@
--- The chain of a loop and an assertion behind it.
-use Rattle.std.proofs.Common.{◌≡◌, ◌≢◌, ◌<◌, ℕ, zero, suc, List, [], ◌∷◌, Some, None, true, slice_get, refl, ap, subst, arith, inl, inr, ℤ, pos}
-use Rattle.std.specs.Prelude.{Contains, slice_index_or}
+-- The chain of a loop and an assertion after it.
+use Rattle.std.proofs.Common.{◌≡◌, ◌≢◌, ℕ, zero, suc, List, [], ◌∷◌, Some, None, true, slice_get, refl, ap, subst, arith, inl, inr, ℤ, pos}
+use Rattle.std.specs.Prelude.{Contains}
 use Rattle.std.specs.List.{AllByRecursion}
 use Rattle.std.proofs.lemmas.Int.{ints}
 use Rattle.mc_base.specs.declared.ids.NodeId.{NodeId}
@@ -21,7 +21,7 @@ use Rattle.mc_pure.specs.Derived.{IsFalse}
 use Rattle.mc_pure.specs.Examples.{node}
 use Rattle.mc_pure.specs.Laws.{IsTrue, TrueIsNotFalse}
 use Rattle.mc_pure.specs.Pure as known
-use Rattle.mc_pure.specs.Pure.{Kinds, Pure, kind_atom}
+use Rattle.mc_pure.specs.Pure.{Kinds, kind_atom}
 use Rattle.mc_state.specs.Facts as facts
 use Rattle.mc_state.specs.Facts.{IsTidy}
 use Rattle.mc_state.specs.State.{State, unknown, with_atom}
@@ -33,6 +33,7 @@ use Rattle.mc_kernel.specs.Instances.{JumpsTo}
 use Rattle.mc_joins.specs.Parts.{Basis}
 use Rattle.mc_joins.specs.Chains.Chains.{over, ReadsPass, HasAlarms, IsUnfinished}
 use Rattle.mc_joins.specs.Chains.Examples.{assert_flow, assert_document, short_document, first_pass, second_pass}
+use Rattle.mc_kernel.proofs.Plain.{contains_one, known_of}
 
 -- ---- what is true by some numbers is not false
 
@@ -45,9 +46,6 @@ kind_true : (v : Valuation) (n : NodeId) (kind : Kind) → InKind kind (v n.0) �
 kind_true v n Int h = h
 kind_true v n Ptr h = h
 
-abbrev known_of : Kinds → List Atom → Pure
-known_of kinds atoms = record { kinds = kinds; written = atoms; starts = [] }
-
 module _ (v : Valuation) (kinds : Kinds) (atoms : List Atom) (null : v 0 ≡ pos 0) (kinds_are : AllByRecursion (λ (k : NodeId × Kind). InKind k.1 (v k.0.0)) kinds) (atoms_are : AllByRecursion (IsTrueAtom v) atoms) where
   base_true : IsTrue v (known_of kinds atoms)
   base_true f (known.written place e) = each_at (IsTrueAtom v) atoms place f e atoms_are
@@ -58,13 +56,6 @@ module _ (v : Valuation) (kinds : Kinds) (atoms : List Atom) (null : v 0 ≡ pos
 
   not_false : TrueIsNotFalse → IsFalse (known_of kinds atoms) → ⊥
   not_false law wrong = law (known_of kinds atoms) v base_true wrong
-
-contains_one : {X : Type 0} (x y : X) → Contains (x ∷ []) y → x ≡ y
-contains_one x y (k, less, is) = at k less is
-  where
-    at : (k : ℕ) → k < 1 → slice_index_or (x ∷ []) k y ≡ y → x ≡ y
-    at zero less is = is
-    at (suc k) less is = absurd (omega arith)
 
 contains_here : {X : Type 0} (x : X) (xs : List X) → Contains (x ∷ xs) x
 contains_here x xs = (0, omega arith, refl)

@@ -63,6 +63,6 @@ pub record IsBijection (f : ℕ → ℕ) (s t : State) : Type 0 where
 abbrev pub moved_edges : (ℕ → ℕ) → Edges → Edges
 moved_edges f es = map {A = EdgeId × Edge} {B = EdgeId × Edge} (λ e. (e.0, moved_edge f e.1)) es
 
--- each of the atoms, renamed, is derived in the state
+-- each of the atoms, renamed, is entailed in the state
 abbrev pub AreKnown : (ℕ → ℕ) → List Atom → State → Type 0
 AreKnown f atoms s = (place : ℕ) (a : Atom) → slice_get atoms place ≡ Some a → Derives s (moved_atom f a)

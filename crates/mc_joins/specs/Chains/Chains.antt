@@ -64,11 +64,11 @@ last_pass [] = []
 last_pass (rules ∷ []) = rules
 last_pass (rules ∷ more ∷ passes) = last_pass (more ∷ passes)
 
--- the tests tell what is derived in each well-made state
+-- the tests tell what is entailed in each well-made state
 abbrev pub KnowsStates : Flow → List Def → (State → Test) → Type 0
 KnowsStates flow defs know = (s : State) → IsWellMade defs flow.vars flow.structs.list s → Tells (know s) s
 
--- a legal chain, by what is derived in states: its header, its cuts, its passes, which begin with no state at any
+-- a legal chain, by what is entailed in states: its header, its cuts, its passes, which begin with no state at any
 -- cut, and the end
 pub record IsLegalChain (know : State → Test) (flow : Flow) (defs : List Def) (lines : List Line) : Type 0 where
   pub cuts : List PointId

@@ -2,7 +2,8 @@
 use Rattle.std.specs.Prelude.{pos, Bool, true, false, None, List, [], ◌∷◌, ◌++◌}
 use Rattle.mc_base.specs.Nodes.{null}
 use Rattle.mc_lines.specs.declared.cert.line.Line.{Line}
-use Rattle.mc_lines.specs.declared.cert.line.Line.TheVariants.{Header, Cut, Pass, End, S1, S3, S4, S13, L12, L13, C1, C2}
+use Rattle.mc_state.specs.declared.line.InstrRule.TheVariants.{S1, S3, S4, S13}
+use Rattle.mc_lines.specs.declared.cert.line.Line.TheVariants.{Header, Cut, Pass, End, Step, L12, L13, C1, C2}
 use Rattle.mc_flow.specs.declared.graph.Flow.{Flow}
 use Rattle.mc_flow.specs.declared.instr.Instr.{Instr}
 use Rattle.mc_flow.specs.declared.instr.Instr.TheVariants as instr
@@ -41,19 +42,20 @@ assert_flow = flow_of loop_vars (at 1 ∷ []) assert_code
 
 -- the first pass opens a state at the head of the loop
 abbrev pub first_pass : List Line
-first_pass = S1 ∷ C2 [] ∷ []
+first_pass = Step S1 ∷ C2 [] ∷ []
 
 -- the second changes nothing: from the entry to the head; from the head to the fault, where it is stuck, and back to
 -- the head
 abbrev pub second_pass : List Line
 second_pass =
-    S1 ∷ L13 0 (null ∷ []) [] ∷ S1 ∷ S4 ∷ S13 ∷ S3 ∷ S1 ∷ S13 ∷ C1 ∷ L12 ∷ S3 ∷ L13 0 (null ∷ []) [] ∷ []
+    Step S1 ∷ L13 0 (null ∷ []) [] ∷ Step S1 ∷ Step S4 ∷ Step S13 ∷ Step S3 ∷ Step S1 ∷ Step S13
+    ∷ C1 ∷ L12 ∷ Step S3 ∷ L13 0 (null ∷ []) [] ∷ []
 
 -- its chain
 abbrev pub assert_document : List Line
 assert_document = Header One Chain ∷ Cut (at 1) ∷ Pass ∷ (first_pass ++ (Pass ∷ (second_pass ++ End ∷ [])))
 
--- the chain that ends behind its first pass
+-- the chain that ends after its first pass
 abbrev pub short_document : List Line
 short_document = Header One Chain ∷ Cut (at 1) ∷ Pass ∷ (first_pass ++ End ∷ [])
 

@@ -121,7 +121,7 @@ reading_cut flow p r =
     (need 4 (comes_after r.cuts p)
     (Ok (record r { cuts = r.cuts ++ p ∷ [] }))))
 
--- a pass may stand here: behind the cuts, among which are all loop heads, or behind another pass
+-- a pass may stand here: after the cuts, among which are all loop heads, or after another pass
 abbrev pub may_pass : Flow → Reading → Stage → Bool
 may_pass flow r cutting = has_all_heads flow r.cuts
 may_pass flow r passing = true
@@ -134,7 +134,7 @@ reading_pass flow r =
     (need 3 (has_no_branch r.branches && (is_cutting r.stage || r.changed))
     (Ok (record r { stage = passing; round = suc r.round; branches = roots flow r.heads; stuck = []; changed = false })))
 
--- the end: behind a pass, and no branch is open
+-- the end: after a pass, and no branch is open
 abbrev pub reading_end : Reading → Judged Reading
 reading_end r = need 1 (is_passing r.stage) (need 3 (has_no_branch r.branches) (Ok (record r { stage = finished })))
 
@@ -175,7 +175,7 @@ reading_line k flow defs line.Pass r = reading_pass flow r
 reading_line k flow defs line.End r = reading_end r
 reading_line k flow defs l r = reading_rule k flow defs l r
 
--- what comes of the lines behind a line; or the line's number and its first premise that is unmet
+-- what comes of the lines after a line; or the line's number and its first premise that is unmet
 abbrev pub behind : ℕ → Judged Reading → (Reading → Result Reading (ℕ × ℕ)) → Result Reading (ℕ × ℕ)
 behind number (Ok r) rest = rest r
 behind number (Err k) rest = Err (number, k)
@@ -187,7 +187,7 @@ reading_lines k flow defs number [] r = Ok r
 reading_lines k flow defs number (l ∷ lines) r =
     behind number (reading_line k flow defs l r) (reading_lines k flow defs (suc number) lines)
 
--- what becomes of a chain by the lines behind its header
+-- what becomes of a chain by the lines after its header
 abbrev pub reading_chain : Lore → Flow → List Def → List Line → Result Reading (ℕ × ℕ)
 reading_chain k flow defs lines = reading_lines k flow defs 2 lines begun_chain
 

@@ -12,7 +12,7 @@ use Rattle.mc_joins.specs.Whole.{Joins, GetsStuck}
 
 -- ---- lists of states
 
--- a state more at a point, behind all that are at points up to it; the states of cuts stand in the order of their
+-- a state more at a point, after all that are at points up to it; the states of cuts stand in the order of their
 -- points
 abbrev pub with_state_at : PointId → State → List Head → List Head
 with_state_at p s [] = (p, s) ∷ []

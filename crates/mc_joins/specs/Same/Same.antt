@@ -19,7 +19,7 @@ pub record IsRenaming (f back : ℕ → ℕ) (kinds others : Kinds) : Type 0 whe
   pub comes_back : (n : NodeId) → IsNode kinds n → back (f n.0) ≡ n.0
 
 -- the renaming is a bijection of the nodes under which both are the same state: variables, kinds node by node, edges with their
--- ids and the flag are the same, and the same atoms are derived
+-- ids and the flag are the same, and the same atoms are entailed
 pub record AreSameUnder (f back : ℕ → ℕ) (s t : State) : Type 0 where
   pub there : IsRenaming f back s.kinds t.kinds
   pub again : IsRenaming back f t.kinds s.kinds

@@ -1,4 +1,4 @@
-// Written atoms that are derived of the other state too.
+// Written atoms that are entailed of the other state too.
 ghost use Rattle.std.specs.Prelude.{◌≡◌, ◌↔◌, IsTrue};
 ghost use Rattle.mc_base.specs.Atoms.{moved_atom};
 ghost use Rattle.mc_pure_ops.specs.Renaming.Images.{image};
@@ -31,7 +31,7 @@ fn atom_back(state: &State, renaming: &Renaming, atom: &Atom) -> Atom
     }
 }
 
-/// Whether each atom that is written in the state is derived of the images in the other.
+/// Whether each atom that is written in the state is entailed of the images in the other.
 pub fn all_known_there(state: &State, other: &State, renaming: &Renaming) -> bool
     ensures { IsTrue result ↔ AreKnown (image renaming.now) state.now.atoms other.now }
 {
@@ -43,7 +43,7 @@ pub fn all_known_there(state: &State, other: &State, renaming: &Renaming) -> boo
     true
 }
 
-/// Whether each atom that is written in the other is derived in the state of the nodes that have these images.
+/// Whether each atom that is written in the other is entailed in the state of the nodes that have these images.
 pub fn all_known_back(state: &State, other: &State, renaming: &Renaming) -> bool
     ensures { IsTrue result ↔ AreKnown (way_back (image renaming.now) state.now) other.now.atoms state.now }
 {

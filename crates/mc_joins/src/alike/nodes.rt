@@ -4,11 +4,9 @@ ghost use Rattle.mc_base.specs.Nodes.{moved};
 ghost use Rattle.mc_pure_ops.specs.Renaming.Images.{image};
 ghost use Rattle.mc_joins.specs.Alike.Alike.{origin, way_back, GoesThere, ComesFrom, AllGoThere, AllComeFrom, IsBijection};
 
-use mc_base::{Kind, NodeId};
+use mc_base::{Kind, NULL, NodeId};
 use mc_pure_ops::renaming::Renaming;
 use mc_symbolic::State;
-
-const NULL: NodeId = NodeId(0);
 
 /// The first of the nodes that has this image; node 0 where there is none.
 fn origin(renaming: &Renaming, nodes: &[NodeId], to: NodeId) -> NodeId

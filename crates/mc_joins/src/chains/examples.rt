@@ -11,7 +11,7 @@ ghost use Rattle.mc_joins.specs.Chains.Chains.{HasAlarms, IsUnfinished};
 ghost use Rattle.mc_joins.specs.Chains.Examples.{assert_flow, assert_document, short_document, arrived, with_one, told, told_same};
 ghost use Rattle.mc_joins.specs.Chains.Judges.{Lore, opening_state, joining_state};
 
-/// A loop over inputs and an assertion that fails behind it: its chain has one alarm; the chain that ends behind its
+/// A loop over inputs and an assertion that fails after it: its chain has one alarm; the chain that ends after its
 /// first pass is not final.
 pub fn assertion_alarms()
     ensures alarm { (know : State → Test) → HasAlarms know assert_flow [] assert_document 1 }

@@ -4,12 +4,10 @@ ghost use Rattle.mc_base.specs.Nodes.{null};
 ghost use Rattle.mc_state.specs.declared.graph.edge.Edge.TheVariants.{Ind};
 ghost use Rattle.mc_joins.specs.Rename.Renamed.{with_next_id};
 
-use mc_base::{Args, EdgeId, NoMemory, NodeId, PredId};
+use mc_base::{Args, EdgeId, NULL, NoMemory, PredId};
 use mc_state::graph::Edge;
 use mc_symbolic::State;
 use std::alloc::Global;
-
-const NULL: NodeId = NodeId(0);
 
 /// Some edge of a null pointer.
 fn some_edge(alloc: Global) -> Edge

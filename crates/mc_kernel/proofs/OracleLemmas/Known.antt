@@ -1,4 +1,4 @@
--- What is known of well-made states: what is derived, and the list that is written where a node is forgotten.
+-- What is known of well-made states: what is entailed, and the list that is written where a node is forgotten.
 use Rattle.std.proofs.Common.{inl, inr, ℕ, suc, false, List, [], ◌∷◌, arith}
 use Rattle.std.specs.List.{AllByRecursion}
 use Rattle.mc_base.specs.declared.ids.NodeId.{NodeId}
@@ -21,11 +21,11 @@ use Rattle.mc_state.specs.State.{State, pure_of}
 use Rattle.mc_kernel.proofs.OracleLemmas.Decided.{Or, all_get}
 use Rattle.mc_kernel.proofs.OracleLemmas.MadeOr.{made_or}
 
-rises : (low : ℕ) (kinds : Kinds) (high : ℕ) → NodesAscend low kinds high → RiseFrom low kinds
+pub rises : (low : ℕ) (kinds : Kinds) (high : ℕ) → NodesAscend low kinds high → RiseFrom low kinds
 rises low [] high a = tt
 rises low (k ∷ kinds) high a = ((let l = a.0 in omega arith), rises (suc k.0.0) kinds high a.2)
 
-starts_there : (kinds : Kinds) (es : Edges) → AllByRecursion (λ e. AreNodes kinds (nodes_of e.1)) es → AllByRecursion (IsNode kinds) (block_starts es)
+pub starts_there : (kinds : Kinds) (es : Edges) → AllByRecursion (λ e. AreNodes kinds (nodes_of e.1)) es → AllByRecursion (IsNode kinds) (block_starts es)
 starts_there kinds [] all = tt
 starts_there kinds ((id, Block at shape fields) ∷ es) all = (all.0.0, starts_there kinds es all.1)
 starts_there kinds ((id, Ind at pred args) ∷ es) all = starts_there kinds es all.1
@@ -45,7 +45,7 @@ module _ (defs : List Def) (vars : List VarInfo) (structs : List StructInfo) whe
   }
 
   module _ (decided : EachIsDecided) (lists : ListsAreThere) where
-    -- a test for each state, that tells what is derived in those that are well made
+    -- a test for each state, that tells what is entailed in those that are well made
     test_by : (s : State) → Or (Made s) → Test
     test_by s (inl m) = (decided (pure_of s) (made_rises s m) (made_fits s m)).0
     test_by s (inr never) = λ f. false

@@ -11,6 +11,8 @@ use Rattle.mc_base.specs.declared.plain.Kind.{Kind}
 use Rattle.mc_base.specs.declared.plain.Kind.TheVariants.{Int, Ptr}
 use Rattle.mc_base.specs.declared.plain.Atom.TheVariants.{Eq}
 use Rattle.mc_base.specs.Nodes.{null}
+use Rattle.mc_state.specs.declared.line.InstrRule.{InstrRule}
+use Rattle.mc_state.specs.declared.line.InstrRule.TheVariants.{S1, S2, S3, S4, S5, S6, S7, S8, S9, S10, S11, S12, S13, S14, S15, S16, S17, S18}
 use Rattle.mc_lines.specs.declared.cert.line.Line.{Line}
 use Rattle.mc_lines.specs.declared.cert.line.Line.TheVariants as line
 use Rattle.mc_flow.specs.declared.defs.rules.Def.{Def}
@@ -33,8 +35,9 @@ use Rattle.mc_state.specs.State.{State, pure_of, var_node}
 use Rattle.mc_rules_steps.specs.declared.gap.Gap.{Gap}
 use Rattle.mc_rules_steps.specs.declared.gap.Gap.TheVariants.{Uninit, NoBlock, Reached, UninitField, NotEmpty}
 use Rattle.mc_rules_steps.specs.Instructions.{skip_of, copy_of, undef_of, input_of, add_of, sub_of, mul_of, load_of, store_of, malloc_of, free_of, test_eq_of, test_le_of, assume_of, assert_of, empty_of, is_end}
-use Rattle.mc_rules_steps.specs.Judges.{InstrRule, S1, S2, S3, S4, S5, S6, S7, S8, S9, S10, S11, S12, S13, S14, S15, S16, S17, S18, stepping, is_shaped_at, is_block_at, flat_node, known_field, has_none, operand_nodes}
-use Rattle.mc_rules_steps.specs.JudgedLaws.{AreGiven, FieldsAreThere, IsStepBy, StepsAreJudged}
+use Rattle.mc_rules_steps.specs.Judges.{stepping, is_shaped_at, is_block_at, flat_node, known_field, has_none, operand_nodes}
+use Rattle.mc_rules_steps.specs.JudgedLaws.{AreGiven, FieldsAreThere, StepsAreJudged}
+use Rattle.mc_rules_steps.specs.Steps.{StepIs}
 use Rattle.mc_rules_steps.specs.Next.{Next}
 use Rattle.mc_rules_steps.specs.Operands.{HasBlock, code_at, operand_node, with_operand}
 use Rattle.mc_rules_steps.specs.Unmet.{IsUnmet, taken}
@@ -65,27 +68,6 @@ pub record Laws : Type 0 where
 -- a gap where the test holds
 gap_given : (test : Bool) (gap : Gap) → test ≡ true → gap_if test gap ≡ Some gap
 gap_given test gap e = ap (λ (z : Bool). gap_if z gap) e
-
--- the line of a rule
-abbrev line_of : InstrRule → Line
-line_of S1 = line.S1
-line_of S2 = line.S2
-line_of S3 = line.S3
-line_of S4 = line.S4
-line_of S5 = line.S5
-line_of S6 = line.S6
-line_of S7 = line.S7
-line_of S8 = line.S8
-line_of S9 = line.S9
-line_of S10 = line.S10
-line_of S11 = line.S11
-line_of S12 = line.S12
-line_of S13 = line.S13
-line_of S14 = line.S14
-line_of S15 = line.S15
-line_of S16 = line.S16
-line_of S17 = line.S17
-line_of S18 = line.S18
 
 module _ (laws : Laws) (know : Test) (range : Ranges) (flow : Flow) (defs : List Def) (g : Setting) (b : Path) (made : IsMade flow defs b) (may : MayStep g b)
     (given : AreGiven know range flow defs b.point b.state) (no_first : false_or_null know b.state.graph.edges ≡ None)
@@ -118,27 +100,10 @@ module _ (laws : Laws) (know : Test) (range : Ranges) (flow : Flow) (defs : List
 
   module _ (asked : Option Line) where
     -- a rule of instructions
-    by_instance : (rule : InstrRule) (steps : List Next) → asked ≡ Some (line_of rule) → IsStepBy rule flow b.point b.state steps → Right asked
-    by_instance S1 steps is i = record { line = line.S1; is = is; is_such = refl; next = map path_of steps; instance = (may, (steps, i, refl)) }
-    by_instance S2 steps is i = record { line = line.S2; is = is; is_such = refl; next = map path_of steps; instance = (may, (steps, i, refl)) }
-    by_instance S3 steps is i = record { line = line.S3; is = is; is_such = refl; next = map path_of steps; instance = (may, (steps, i, refl)) }
-    by_instance S4 steps is i = record { line = line.S4; is = is; is_such = refl; next = map path_of steps; instance = (may, (steps, i, refl)) }
-    by_instance S5 steps is i = record { line = line.S5; is = is; is_such = refl; next = map path_of steps; instance = (may, (steps, i, refl)) }
-    by_instance S6 steps is i = record { line = line.S6; is = is; is_such = refl; next = map path_of steps; instance = (may, (steps, i, refl)) }
-    by_instance S7 steps is i = record { line = line.S7; is = is; is_such = refl; next = map path_of steps; instance = (may, (steps, i, refl)) }
-    by_instance S8 steps is i = record { line = line.S8; is = is; is_such = refl; next = map path_of steps; instance = (may, (steps, i, refl)) }
-    by_instance S9 steps is i = record { line = line.S9; is = is; is_such = refl; next = map path_of steps; instance = (may, (steps, i, refl)) }
-    by_instance S10 steps is i = record { line = line.S10; is = is; is_such = refl; next = map path_of steps; instance = (may, (steps, i, refl)) }
-    by_instance S11 steps is i = record { line = line.S11; is = is; is_such = refl; next = map path_of steps; instance = (may, (steps, i, refl)) }
-    by_instance S12 steps is i = record { line = line.S12; is = is; is_such = refl; next = map path_of steps; instance = (may, (steps, i, refl)) }
-    by_instance S13 steps is i = record { line = line.S13; is = is; is_such = refl; next = map path_of steps; instance = (may, (steps, i, refl)) }
-    by_instance S14 steps is i = record { line = line.S14; is = is; is_such = refl; next = map path_of steps; instance = (may, (steps, i, refl)) }
-    by_instance S15 steps is i = record { line = line.S15; is = is; is_such = refl; next = map path_of steps; instance = (may, (steps, i, refl)) }
-    by_instance S16 steps is i = record { line = line.S16; is = is; is_such = refl; next = map path_of steps; instance = (may, (steps, i, refl)) }
-    by_instance S17 steps is i = record { line = line.S17; is = is; is_such = refl; next = map path_of steps; instance = (may, (steps, i, refl)) }
-    by_instance S18 steps is i = record { line = line.S18; is = is; is_such = refl; next = map path_of steps; instance = (may, (steps, i, refl)) }
+    by_instance : (rule : InstrRule) (steps : List Next) → asked ≡ Some (line.Step rule) → StepIs rule flow b.point b.state steps → Right asked
+    by_instance rule steps is i = record { line = line.Step rule; is = is; is_such = refl; next = map path_of steps; instance = (may, (steps, i, refl)) }
 
-    by_rule : (rule : InstrRule) → asked ≡ Some (line_of rule) → Gives (stepping know range flow rule b.point b.state) → Right asked
+    by_rule : (rule : InstrRule) → asked ≡ Some (line.Step rule) → Gives (stepping know range flow rule b.point b.state) → Right asked
     by_rule rule is gives = by_instance rule gives.0 is ((laws.steps know range flow defs rule b.point b.state given gives.0).0 gives.1)
 
   -- ---- the instruction at the point
@@ -228,7 +193,7 @@ module _ (laws : Laws) (know : Test) (range : Ranges) (flow : Flow) (defs : List
     load_nothing : NoneFound (is_shaped_at know n shape) es → Right (at_code know defs s load)
     load_nothing none =
         unfolded load at n is
-        (ap (option_and_then (at_block know shape line.S8 es)) is ∙ ap (λ (z : Bool). if z then Some line.S8 else None) none.none)
+        (ap (option_and_then (at_block know shape (line.Step S8) es)) is ∙ ap (λ (z : Bool). if z then Some (line.Step S8) else None) none.none)
         (λ never.
         load_lacks (NoBlock n)
         (ap (λ (z : Option Gap). or_else z (gap_if (list_any (lacks_field know n shape field) es) (UninitField n field)))
@@ -238,8 +203,8 @@ module _ (laws : Laws) (know : Test) (range : Ranges) (flow : Flow) (defs : List
       load_field : (m : NodeId) → known_field f.item.1 field ≡ Some m → Right (at_code know defs s load)
       load_field m e =
           by_rule (at_code know defs s load) S8
-          (own_line load at line.S8
-          (ap (option_and_then (at_block know shape line.S8 es)) is ∙ ap (λ (z : Bool). if z then Some line.S8 else None) (f.listed (is_shaped_at know n shape) f.passes)))
+          (own_line load at (line.Step S8)
+          (ap (option_and_then (at_block know shape (line.Step S8) es)) is ∙ ap (λ (z : Bool). if z then Some (line.Step S8) else None) (f.listed (is_shaped_at know n shape) f.passes)))
           (have_gives 1 (load_of (code_at flow b.point)) _ (record { x = x; y = y; shape = shape; f = field; q = q }) (ap load_of at)
           (need_gives 2 (not (is_false know)) _ consistent
           (have_gives 3 (var_node s y) _ n is
@@ -275,7 +240,7 @@ module _ (laws : Laws) (know : Test) (range : Ranges) (flow : Flow) (defs : List
     store_nothing : NoneFound (is_shaped_at know n shape) es → Right (at_code know defs s store)
     store_nothing none =
         unfolded store at n is
-        (ap (option_and_then (at_block know shape line.S9 es)) is ∙ ap (λ (z : Bool). if z then Some line.S9 else None) none.none)
+        (ap (option_and_then (at_block know shape (line.Step S9) es)) is ∙ ap (λ (z : Bool). if z then Some (line.Step S9) else None) none.none)
         (λ never.
         no_gap store at (NoBlock n)
         (ap (option_and_then (block_gap know defs shape es)) is ∙ gap_given _ (NoBlock n) (all_lack store at (is_shaped_at know n shape) n none.none never)))
@@ -283,8 +248,8 @@ module _ (laws : Laws) (know : Test) (range : Ranges) (flow : Flow) (defs : List
     store_found : Found (is_shaped_at know n shape) es → Right (at_code know defs s store)
     store_found f =
         by_rule (at_code know defs s store) S9
-        (own_line store at line.S9
-        (ap (option_and_then (at_block know shape line.S9 es)) is ∙ ap (λ (z : Bool). if z then Some line.S9 else None) (f.listed (is_shaped_at know n shape) f.passes)))
+        (own_line store at (line.Step S9)
+        (ap (option_and_then (at_block know shape (line.Step S9) es)) is ∙ ap (λ (z : Bool). if z then Some (line.Step S9) else None) (f.listed (is_shaped_at know n shape) f.passes)))
         (have_gives 1 (store_of (code_at flow b.point)) _ (record { y = y; shape = shape; f = field; from = from; q = q }) (ap store_of at)
         (need_gives 2 (not (is_false know)) _ consistent
         (have_gives 3 (operand_node s from) _ m value
@@ -299,8 +264,8 @@ module _ (laws : Laws) (know : Test) (range : Ranges) (flow : Flow) (defs : List
       → equal know n null ≡ true → Right (at_code know defs s (instr.Free o q))
   freed_null o q n at is freed zero =
       by_rule (at_code know defs s (instr.Free o q)) S11
-      (own_line (instr.Free o q) at line.S11
-      (ap (option_and_then (freeing know es)) freed ∙ ap (λ (z : Bool). if z then Some line.S11 else if list_any (is_block_at know n) es then Some line.S12 else None) zero))
+      (own_line (instr.Free o q) at (line.Step S11)
+      (ap (option_and_then (freeing know es)) freed ∙ ap (λ (z : Bool). if z then Some (line.Step S11) else if list_any (is_block_at know n) es then Some (line.Step S12) else None) zero))
       (have_gives 1 (free_of (code_at flow b.point)) _ (o, q) (ap free_of at)
       (need_gives 2 (not (is_false know)) _ consistent
       (have_gives 3 (operand_node s o) _ n is
@@ -311,13 +276,13 @@ module _ (laws : Laws) (know : Test) (range : Ranges) (flow : Flow) (defs : List
     abbrev free : Instr
     free = instr.Free (Var x) q
 
-    freed_line : code_line know s free ≡ (if list_any (is_block_at know n) es then Some line.S12 else None)
+    freed_line : code_line know s free ≡ (if list_any (is_block_at know n) es then Some (line.Step S12) else None)
     freed_line =
-        ap (option_and_then (freeing know es)) is ∙ ap (λ (z : Bool). if z then Some line.S11 else if list_any (is_block_at know n) es then Some line.S12 else None) other
+        ap (option_and_then (freeing know es)) is ∙ ap (λ (z : Bool). if z then Some (line.Step S11) else if list_any (is_block_at know n) es then Some (line.Step S12) else None) other
 
     freed_nothing : NoneFound (is_block_at know n) es → Right (at_code know defs s free)
     freed_nothing none =
-        unfolded free at n is (freed_line ∙ ap (λ (z : Bool). if z then Some line.S12 else None) none.none)
+        unfolded free at n is (freed_line ∙ ap (λ (z : Bool). if z then Some (line.Step S12) else None) none.none)
         (λ never.
         no_gap free at (NoBlock n)
         (ap (option_and_then (free_gap know defs es)) is
@@ -327,7 +292,7 @@ module _ (laws : Laws) (know : Test) (range : Ranges) (flow : Flow) (defs : List
     freed_found : Found (is_block_at know n) es → Right (at_code know defs s free)
     freed_found f =
         by_rule (at_code know defs s free) S12
-        (own_line free at line.S12 (freed_line ∙ ap (λ (z : Bool). if z then Some line.S12 else None) (f.listed (is_block_at know n) f.passes)))
+        (own_line free at (line.Step S12) (freed_line ∙ ap (λ (z : Bool). if z then Some (line.Step S12) else None) (f.listed (is_block_at know n) f.passes)))
         (have_gives 1 (free_of (code_at flow b.point)) _ (Var x, q) (ap free_of at)
         (need_gives 2 (not (is_false know)) _ consistent
         (have_gives 3 (operand_node s (Var x)) _ n is
@@ -495,7 +460,7 @@ module _ (laws : Laws) (know : Test) (range : Ranges) (flow : Flow) (defs : List
       right_for flow defs g b (option_and_then (at_code know defs s) (code_at flow b.point)) (at_code know defs s point.0.code) (ap (option_and_then (at_code know defs s)) at)
       (by_code point.0.code at (given.valid.points b.point.0 point.0 point.1).kinds)
 
--- whatever tells what is derived
+-- whatever tells what is entailed
 pub code_lines_are_right : Laws → CodeLinesAreRight
 code_lines_are_right laws know flow defs g b valid made inside may tells no_first met =
     let judge = laws.judges flow defs valid in

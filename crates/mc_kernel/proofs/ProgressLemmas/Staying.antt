@@ -3,9 +3,11 @@ use Rattle.std.proofs.Common.{◌≡◌, ◌<◌, List, [], ◌∷◌, length, m
 use Rattle.std.specs.List.{AllByRecursion}
 use Rattle.std.specs.Prelude.{All}
 use Rattle.mc_base.specs.declared.ids.PointId.{PointId}
+use Rattle.mc_state.specs.declared.line.InstrRule.{InstrRule}
+use Rattle.mc_state.specs.declared.line.InstrRule.TheVariants.{S1, S2, S3, S4, S5, S6, S7, S8, S9, S10, S11, S12, S13, S14, S15, S16, S17, S18}
 use Rattle.mc_lines.specs.declared.cert.line.Line.{Line}
-use Rattle.mc_lines.specs.declared.cert.line.Line.TheVariants.{Header, Cut, Head, Pass, End, S1, S2, S3, S4, S5, S6, S7, S8, S9, S10, S11, S12, S13, S14, S15, S16, S17, S18}
-use Rattle.mc_lines.specs.declared.cert.line.Line.TheVariants.{L1, L2, L3, L4, L5, L6, L7, L8, L9, L10, L11, L12, L13, L14, L15, C1, C2, C3}
+use Rattle.mc_lines.specs.declared.cert.line.Line.TheVariants.{Header, Cut, Head, Pass, End, Step, L1, L2, L3, L4, L5, L6, L7, L8, L9, L10}
+use Rattle.mc_lines.specs.declared.cert.line.Line.TheVariants.{L11, L12, L13, L14, L15, C1, C2, C3}
 use Rattle.mc_flow.specs.declared.defs.rules.Def.{Def}
 use Rattle.mc_flow.specs.declared.graph.Flow.{Flow}
 use Rattle.mc_flow.specs.declared.graph.Point.{Point}
@@ -17,7 +19,7 @@ use Rattle.mc_state.specs.declared.line.Form.TheVariants.{Certificate, Chain}
 use Rattle.mc_state.specs.State.{State}
 use Rattle.mc_rules_steps.specs.Next.{Next}
 use Rattle.mc_rules_steps.specs.Operands.{code_at}
-use Rattle.mc_rules_steps.specs.Steps.{S1Is, S2Is, S3Is, S4Is, S5Is, S6Is, S7Is, S8Is, S9Is, S10Is, S11Is, S12Is, S13Is, S14Is, S15Is, S16Is, S17Is, S18Is}
+use Rattle.mc_rules_steps.specs.Steps.{StepIs}
 use Rattle.mc_kernel.specs.Branches.{IsPlain, Path, Setting, closes_by, path_of, path_to, with_state}
 use Rattle.mc_kernel.specs.Instances.{ByStep, IsInstance}
 use Rattle.mc_kernel.specs.Progress.Progress.{IsInside, LinesStayInside, LinesStayOpen, advances}
@@ -42,7 +44,7 @@ module _ (flow : Flow) (defs : List Def) (valid : IsValid flow defs) where
   abbrev IsThere : Next → Type 0
   IsThere n = n.point.0 < length flow.points
 
-  -- the points behind an instruction are there
+  -- the points after an instruction are there
   goes_at : (p : PointId) (code : Instr) → code_at flow p ≡ Some code → All (GoesOn flow p.0) (targets code)
   goes_at p code e = at (slice_get flow.points p.0) refl e
     where
@@ -53,7 +55,7 @@ module _ (flow : Flow) (defs : List Def) (valid : IsValid flow defs) where
           same : Some point.code ≡ Some code → point.code ≡ code
           same e = cc
 
-  -- one point behind it, and the first and the second of two
+  -- one point after it, and the first and the second of two
   to_one : (p q : PointId) (code : Instr) → code_at flow p ≡ Some code → targets code ≡ q ∷ [] → q.0 < length flow.points
   to_one p q code at only = (subst (All (GoesOn flow p.0)) only (goes_at p code at) 0 q (omega arith)).0
 
@@ -70,60 +72,26 @@ module _ (flow : Flow) (defs : List Def) (valid : IsValid flow defs) where
   given : (next steps : List Next) → next ≡ steps → AreThere steps → AreThere next
   given next steps gives a = subst AreThere (sym gives) a
 
-  module _ (p : PointId) (s : State) (next : List Next) where
-    s1 : S1Is flow p s next → AreThere next
-    s1 i = given next _ i.gives (to_one p i.q _ i.at refl, tt)
-
-    s2 : S2Is flow p s next → AreThere next
-    s2 i = given next _ i.gives (to_one p i.q _ i.at refl, tt)
-
-    s3 : S3Is flow p s next → AreThere next
-    s3 i = given next _ i.gives (to_one p i.q _ i.at refl, tt)
-
-    s4 : S4Is flow p s next → AreThere next
-    s4 i = given next _ i.gives (to_one p i.q _ i.at refl, tt)
-
-    s5 : S5Is flow p s next → AreThere next
-    s5 i = given next _ i.computes.gives (to_one p i.q _ i.at refl, tt)
-
-    s6 : S6Is flow p s next → AreThere next
-    s6 i = given next _ i.computes.gives (to_one p i.q _ i.at refl, tt)
-
-    s7 : S7Is flow p s next → AreThere next
-    s7 i = given next _ i.computes.gives (to_one p i.q _ i.at refl, tt)
-
-    s8 : S8Is flow p s next → AreThere next
-    s8 i = given next _ i.gives (to_one p i.q _ i.at refl, tt)
-
-    s9 : S9Is flow p s next → AreThere next
-    s9 i = given next _ i.gives (to_one p i.q _ i.at refl, tt)
-
-    s10 : S10Is flow p s next → AreThere next
-    s10 i = let there = to_one p i.q _ i.at refl in given next _ i.gives (there, (there, tt))
-
-    s11 : S11Is flow p s next → AreThere next
-    s11 i = given next _ i.gives (to_one p i.q _ i.at refl, tt)
-
-    s12 : S12Is flow p s next → AreThere next
-    s12 i = given next _ i.gives (to_one p i.q _ i.at refl, tt)
-
-    s13 : S13Is flow p s next → AreThere next
-    s13 i = given next _ i.gives (to_first p i.t i.f _ i.at refl, (to_second p i.t i.f _ i.at refl, tt))
-
-    s14 : S14Is flow p s next → AreThere next
-    s14 i = given next _ i.gives (to_first p i.t i.f _ i.at refl, (to_second p i.t i.f _ i.at refl, tt))
-
-    s15 : S15Is flow p s next → AreThere next
-    s15 i = given next _ i.gives (to_one p i.q _ i.at refl, tt)
-
-    s16 : p.0 < length flow.points → S16Is flow p s next → AreThere next
-    s16 inside i = given next _ i.gives (subst IsThere (sym i.side_is) inside, (to_one p i.q _ i.at refl, tt))
-
-    s17 : S17Is flow p s next → AreThere next
-    s17 i = given next _ i.gives tt
-
-    s18 : S18Is flow p s next → AreThere next
-    s18 i = given next _ i.gives (to_one p i.q _ i.at refl, tt)
+  module _ (p : PointId) (s : State) (next : List Next) (inside : p.0 < length flow.points) where
+    steps_there : (rule : InstrRule) → StepIs rule flow p s next → AreThere next
+    steps_there S1 i = given next _ i.gives (to_one p i.q _ i.at refl, tt)
+    steps_there S2 i = given next _ i.gives (to_one p i.q _ i.at refl, tt)
+    steps_there S3 i = given next _ i.gives (to_one p i.q _ i.at refl, tt)
+    steps_there S4 i = given next _ i.gives (to_one p i.q _ i.at refl, tt)
+    steps_there S5 i = given next _ i.computes.gives (to_one p i.q _ i.at refl, tt)
+    steps_there S6 i = given next _ i.computes.gives (to_one p i.q _ i.at refl, tt)
+    steps_there S7 i = given next _ i.computes.gives (to_one p i.q _ i.at refl, tt)
+    steps_there S8 i = given next _ i.gives (to_one p i.q _ i.at refl, tt)
+    steps_there S9 i = given next _ i.gives (to_one p i.q _ i.at refl, tt)
+    steps_there S10 i = let there = to_one p i.q _ i.at refl in given next _ i.gives (there, (there, tt))
+    steps_there S11 i = given next _ i.gives (to_one p i.q _ i.at refl, tt)
+    steps_there S12 i = given next _ i.gives (to_one p i.q _ i.at refl, tt)
+    steps_there S13 i = given next _ i.gives (to_first p i.t i.f _ i.at refl, (to_second p i.t i.f _ i.at refl, tt))
+    steps_there S14 i = given next _ i.gives (to_first p i.t i.f _ i.at refl, (to_second p i.t i.f _ i.at refl, tt))
+    steps_there S15 i = given next _ i.gives (to_one p i.q _ i.at refl, tt)
+    steps_there S16 i = given next _ i.gives (subst IsThere (sym i.side_is) inside, (to_one p i.q _ i.at refl, tt))
+    steps_there S17 i = given next _ i.gives tt
+    steps_there S18 i = given next _ i.gives (to_one p i.q _ i.at refl, tt)
 
   path_inside : (p : PointId) (s : State) (goal : Option Goal) → p.0 < length flow.points → IsInside flow (path_to p s goal)
   path_inside p s None inside = inside
@@ -133,11 +101,10 @@ module _ (flow : Flow) (defs : List Def) (valid : IsValid flow defs) where
   paths_inside [] a = tt
   paths_inside (n ∷ steps) a = (path_inside n.point n.state n.goal a.0, paths_inside steps a.1)
 
-  by_step : (Rule : Flow → PointId → State → List Next → Type 0) (g : Setting) (b : Path) (next : List Path)
-      → ((steps : List Next) → Rule flow b.point b.state steps → AreThere steps) → ByStep Rule flow g b next → AllByRecursion (IsInside flow) next
-  by_step Rule g b next each i =
+  by_step : (rule : InstrRule) (g : Setting) (b : Path) (next : List Path) → IsInside flow b → ByStep rule flow g b next → AllByRecursion (IsInside flow) next
+  by_step rule g b next inside i =
       let steps = i.1 in
-      subst (AllByRecursion (IsInside flow)) (sym steps.2) (paths_inside steps.0 (each steps.0 steps.1))
+      subst (AllByRecursion (IsInside flow)) (sym steps.2) (paths_inside steps.0 (steps_there b.point b.state steps.0 inside rule steps.1))
 
   -- branches at the same point
   at_point : {X : Type 0} (f : X → Path) (b : Path) → IsInside flow b → ((x : X) → (f x).point ≡ b.point) → (xs : List X) (next : List Path) → next ≡ map f xs → AllByRecursion (IsInside flow) next
@@ -145,29 +112,12 @@ module _ (flow : Flow) (defs : List Def) (valid : IsValid flow defs) where
 
   module _ (g : Setting) (b : Path) (next : List Path) (inside : IsInside flow b) where
     pub line_inside : (l : Line) → IsInstance flow defs g l b next → AllByRecursion (IsInside flow) next
-    line_inside S1 i = by_step S1Is g b next (s1 b.point b.state) i
-    line_inside S2 i = by_step S2Is g b next (s2 b.point b.state) i
-    line_inside S3 i = by_step S3Is g b next (s3 b.point b.state) i
-    line_inside S4 i = by_step S4Is g b next (s4 b.point b.state) i
-    line_inside S5 i = by_step S5Is g b next (s5 b.point b.state) i
-    line_inside S6 i = by_step S6Is g b next (s6 b.point b.state) i
-    line_inside S7 i = by_step S7Is g b next (s7 b.point b.state) i
-    line_inside S8 i = by_step S8Is g b next (s8 b.point b.state) i
-    line_inside S9 i = by_step S9Is g b next (s9 b.point b.state) i
-    line_inside S10 i = by_step S10Is g b next (s10 b.point b.state) i
-    line_inside S11 i = by_step S11Is g b next (s11 b.point b.state) i
-    line_inside S12 i = by_step S12Is g b next (s12 b.point b.state) i
-    line_inside S13 i = by_step S13Is g b next (s13 b.point b.state) i
-    line_inside S14 i = by_step S14Is g b next (s14 b.point b.state) i
-    line_inside S15 i = by_step S15Is g b next (s15 b.point b.state) i
-    line_inside S16 i = by_step S16Is g b next (λ steps r. s16 b.point b.state steps inside r) i
-    line_inside S17 i = by_step S17Is g b next (s17 b.point b.state) i
-    line_inside S18 i = by_step S18Is g b next (s18 b.point b.state) i
+    line_inside (Step rule) i = by_step rule g b next inside i
     line_inside (L1 edge) i = at_point (with_state b) b inside (λ s. refl) i.1.0 next i.1.2
     line_inside (L2 edge) i = at_point (with_state b) b inside (λ s. refl) i.1.0 next i.1.2
     line_inside (L15 edge) i = at_point (with_state b) b inside (λ s. refl) i.1.0 next i.1.2
-    line_inside (L3 pred rule names block edges) i = at_point _ b inside (λ s. refl) i.0 next i.2
-    line_inside (L4 pred rule names block edges call) i = at_point _ b inside (λ s. refl) i.0 next i.2
+    line_inside (L3 fold) i = at_point _ b inside (λ s. refl) i.0 next i.2
+    line_inside (L4 fold) i = at_point _ b inside (λ s. refl) i.0 next i.2
     line_inside (L5 first second) i = at_point _ b inside (λ s. refl) i.0 next i.2
     line_inside (L6 first second) i = at_point _ b inside (λ s. refl) i.0 next i.2
     line_inside (L7 pred at args stop ends) i = at_point _ b inside (λ s. refl) i.0 next i.2
@@ -199,8 +149,8 @@ path_open : (p : PointId) (s : State) (goal : Option Goal) → IsOpen (path_to p
 path_open p s None = refl
 path_open p s (Some goal) = refl
 
-step_open : (Rule : Flow → PointId → State → List Next → Type 0) (flow : Flow) (g : Setting) (b : Path) (next : List Path) → ByStep Rule flow g b next → AllByRecursion IsOpen next
-step_open Rule flow g b next i = of_states IsOpen path_of (λ n. path_open n.point n.state n.goal) i.1.0 next i.1.2
+step_open : (rule : InstrRule) (flow : Flow) (g : Setting) (b : Path) (next : List Path) → ByStep rule flow g b next → AllByRecursion IsOpen next
+step_open rule flow g b next i = of_states IsOpen path_of (λ n. path_open n.point n.state n.goal) i.1.0 next i.1.2
 
 -- a fold of a side branch closes nothing
 fold_open : (form : Form) (goal : Option Goal) (closing : Bool) → closing ≡ false → (goal ≡ None → ⊥) → closes_by form goal closing ≡ false
@@ -221,29 +171,12 @@ module _ (flow : Flow) (defs : List Def) (g : Setting) (b : Path) (next : List P
     folding_open states gives = of_states IsOpen fold (λ s. folded) states next gives
 
   pub line_open : (l : Line) → (IsPlain b → advances l ≡ true) → IsInstance flow defs g l b next → AllByRecursion IsOpen next
-  line_open S1 such i = step_open S1Is flow g b next i
-  line_open S2 such i = step_open S2Is flow g b next i
-  line_open S3 such i = step_open S3Is flow g b next i
-  line_open S4 such i = step_open S4Is flow g b next i
-  line_open S5 such i = step_open S5Is flow g b next i
-  line_open S6 such i = step_open S6Is flow g b next i
-  line_open S7 such i = step_open S7Is flow g b next i
-  line_open S8 such i = step_open S8Is flow g b next i
-  line_open S9 such i = step_open S9Is flow g b next i
-  line_open S10 such i = step_open S10Is flow g b next i
-  line_open S11 such i = step_open S11Is flow g b next i
-  line_open S12 such i = step_open S12Is flow g b next i
-  line_open S13 such i = step_open S13Is flow g b next i
-  line_open S14 such i = step_open S14Is flow g b next i
-  line_open S15 such i = step_open S15Is flow g b next i
-  line_open S16 such i = step_open S16Is flow g b next i
-  line_open S17 such i = step_open S17Is flow g b next i
-  line_open S18 such i = step_open S18Is flow g b next i
+  line_open (Step rule) such i = step_open rule flow g b next i
   line_open (L1 edge) such i = of_states IsOpen (with_state b) (λ s. open_still) i.1.0 next i.1.2
   line_open (L2 edge) such i = of_states IsOpen (with_state b) (λ s. open_still) i.1.0 next i.1.2
   line_open (L15 edge) such i = of_states IsOpen (with_state b) (λ s. open_still) i.1.0 next i.1.2
-  line_open (L3 pred rule names block edges) such i = folding_open such i.0 i.2
-  line_open (L4 pred rule names block edges call) such i = folding_open such i.0 i.2
+  line_open (L3 fold) such i = folding_open such i.0 i.2
+  line_open (L4 fold) such i = folding_open such i.0 i.2
   line_open (L5 first second) such i = folding_open such i.0 i.2
   line_open (L6 first second) such i = folding_open such i.0 i.2
   line_open (L7 pred at args stop ends) such i = folding_open such i.0 i.2

@@ -6,6 +6,8 @@ use Rattle.std.specs.List.{AllByRecursion}
 use Rattle.mc_base.specs.declared.ids.NodeId.{NodeId}
 use Rattle.mc_base.specs.declared.ids.PointId.{PointId}
 use Rattle.mc_base.specs.declared.plain.Atom.{Atom}
+use Rattle.mc_state.specs.declared.line.InstrRule.{InstrRule}
+use Rattle.mc_state.specs.declared.line.InstrRule.TheVariants.{S5, S6, S7, S14}
 use Rattle.mc_lines.specs.declared.cert.line.Line.{Line}
 use Rattle.mc_lines.specs.declared.cert.line.Line.TheVariants as line
 use Rattle.mc_flow.specs.declared.defs.rules.Def.{Def}
@@ -23,7 +25,7 @@ use Rattle.mc_rules_logic.specs.Back.Judges.{unfolding_back}
 use Rattle.mc_rules_steps.specs.declared.gap.Gap.{Gap}
 use Rattle.mc_rules_steps.specs.Next.{Next}
 use Rattle.mc_rules_steps.specs.Instructions.{ResultParts, TestParts, add_of, sub_of, mul_of, test_le_of}
-use Rattle.mc_rules_steps.specs.Judges.{InstrRule, S1, S2, S3, S4, S5, S6, S7, S8, S9, S10, S11, S12, S13, S14, S15, S16, S17, S18, computing, stepping}
+use Rattle.mc_rules_steps.specs.Judges.{computing, stepping}
 use Rattle.mc_rules_steps.specs.Operands.{code_at, operand_node, with_operand}
 use Rattle.mc_rules_steps.specs.Steps.{moved_to}
 use Rattle.mc_rules_steps.specs.Sums.{Ranges, Operation, sum, difference, product, with_result, at_most_atoms, above_atoms}
@@ -85,7 +87,7 @@ module _ {W A : Type 0} where
   then_alike f (Ok a) (Err q) alike = absurd alike.is
   then_alike f (Err p) (Ok b) alike = absurd alike.is
 
--- premises on two operands, whatever comes behind them
+-- premises on two operands, whatever comes after them
 operands_alike : {I : Type 0} (parts : Option I) (test : Bool) (first second : I → Option NodeId) (give other : I → NodeId → NodeId → List Next)
     → Alike (have 1 parts (λ i. need 2 test (have 3 (first i) (λ a. have 4 (second i) (λ b. Ok (give i a b))))))
     (have 1 parts (λ i. need 2 test (have 3 (first i) (λ a. have 4 (second i) (λ b. Ok (other i a b))))))
@@ -95,7 +97,7 @@ operands_alike parts test first second give other =
     (have_alike 3 (first i) _ _ (λ a.
     have_alike 4 (second i) _ _ (λ b. alike_given (give i a b) (other i a b)))))
 
--- what comes behind them
+-- what comes after them
 abbrev computed : Operation → Ranges → State → ResultParts → NodeId → NodeId → List Next
 computed op range s i a b =
     let before = with_operand (with_operand s i.o) i.o' in
@@ -124,7 +126,7 @@ step_alike know range other flow rule p s = alike_self (stepping know range flow
 forget_alike : (know : Test) (atoms other : List Atom) (node : NodeId) (s : State) → Alike (forgetting_node know atoms node s) (forgetting_node know other node s)
 forget_alike know atoms other node s = need_alike 2 _ _ _ (need_alike 3 _ _ _ (need_alike 4 _ _ _ (alike_given _ _)))
 
--- the premises of a stuck line behind its place
+-- the premises of a stuck line after its place
 abbrev gapped : Test → Option Gap → Judged (List Path)
 gapped know o = need 2 (not (is_false know)) (have 3 o (λ gap. Ok []))
 
@@ -138,7 +140,7 @@ same_option (Some a) p f g = sym (f a refl)
 same_option None (Some a) f g = g a refl
 same_option None None f g = refl
 
--- tests that tell what is derived are one
+-- tests that tell what is entailed are one
 same_tests : (know other : Test) (s : State) → Tells know s → Tells other s → know ≡ other
 same_tests know other s one two = fun_ext (λ f. same_test (know f) (other f) (λ e. (two f).1 ((one f).0 e)) (λ e. (one f).1 ((two f).0 e)))
 
@@ -165,29 +167,12 @@ module _ (right : Right) (k : Knowledge) (well : RawState → Bool) (other : Kno
         (step_alike (k.know b.state) k.range other.range flow rule b.point b.state)))
 
     line_alike : (l : Line) → Alike (judged_line k flow defs g l b) (judged_line other flow defs g l b)
-    line_alike line.S1 = stepped S1
-    line_alike line.S2 = stepped S2
-    line_alike line.S3 = stepped S3
-    line_alike line.S4 = stepped S4
-    line_alike line.S5 = stepped S5
-    line_alike line.S6 = stepped S6
-    line_alike line.S7 = stepped S7
-    line_alike line.S8 = stepped S8
-    line_alike line.S9 = stepped S9
-    line_alike line.S10 = stepped S10
-    line_alike line.S11 = stepped S11
-    line_alike line.S12 = stepped S12
-    line_alike line.S13 = stepped S13
-    line_alike line.S14 = stepped S14
-    line_alike line.S15 = stepped S15
-    line_alike line.S16 = stepped S16
-    line_alike line.S17 = stepped S17
-    line_alike line.S18 = stepped S18
+    line_alike (line.Step rule) = stepped rule
     line_alike (line.L1 edge) = by_knowing (λ know. by_unfolding (unfolding_ind know defs (accessed flow b) edge b.state) b)
     line_alike (line.L2 edge) = by_knowing (λ know. by_unfolding (unfolding_seg know defs (accessed flow b) edge b.state) b)
     line_alike (line.L15 edge) = by_knowing (λ know. by_unfolding (unfolding_back know defs (accessed flow b) edge b.state) b)
-    line_alike (line.L3 pred rule names block edges) = by_knowing (λ know. by_folding (folding_ind know defs pred rule names block edges b.state) g b)
-    line_alike (line.L4 pred rule names block edges call) = by_knowing (λ know. by_folding (folding_seg know defs pred rule names block edges call b.state) g b)
+    line_alike (line.L3 fold) = by_knowing (λ know. by_folding (folding_ind know defs fold b.state) g b)
+    line_alike (line.L4 fold) = by_knowing (λ know. by_folding (folding_seg know defs fold b.state) g b)
     line_alike (line.L5 first second) = by_knowing (λ know. by_folding (closing_seg know first second b.state) g b)
     line_alike (line.L6 first second) = by_knowing (λ know. by_folding (joining_segs know first second b.state) g b)
     line_alike (line.L7 pred at args stop ends) = by_knowing (λ know. by_folding (making_seg know defs pred at args stop ends b.state) g b)

@@ -231,7 +231,7 @@ module _ (k : Knowledge) (well : RawState → Bool) (flow : Flow) (defs : List D
 
   -- ---- from one stage to the next
 
-  -- behind the last cut a certificate reads as behind the last head
+  -- after the last cut a certificate reads as after the last head
   pub from_cuts : (cuts : List PointId) (n : ℕ) (lines : List Line) (l : Line) → has_all_heads flow cuts ≡ true → starts_cut (l ∷ lines) ≡ false
       → lines_at n (l ∷ lines) (cutting_at Certificate cuts) ≡ lines_at n (l ∷ lines) (heading_at cuts [])
   from_cuts cuts n lines (line.Header version form) full starts = refl
@@ -246,7 +246,7 @@ module _ (k : Knowledge) (well : RawState → Bool) (flow : Flow) (defs : List D
   abbrev pub rooted_at : List PointId → List WrittenHead → Reading
   rooted_at cuts heads = ruling_at Certificate cuts heads (roots flow (states_of heads)) []
 
-  -- and behind the last head as where the roots are open
+  -- and after the last head as where the roots are open
   pub from_heads : (cuts : List PointId) (heads : List WrittenHead) (n : ℕ) (lines : List Line) (l : Line) → has_all_heads flow cuts ≡ true → starts_head (l ∷ lines) ≡ false
       → lines_at n (l ∷ lines) (heading_at cuts heads) ≡ lines_at n (l ∷ lines) (rooted_at cuts heads)
   from_heads cuts heads n lines l full starts = at l starts
@@ -268,7 +268,7 @@ module _ (k : Knowledge) (well : RawState → Bool) (flow : Flow) (defs : List D
       let found = have_ok 1 (rooted flow (cutting_at Certificate cuts) Certificate) f r e in
       root_full (has_all_heads flow cuts) (ruled (cutting_at Certificate cuts) (roots flow [])) found.0 found.1
 
-  -- where a certificate goes on behind its cuts, each loop head is one
+  -- where a certificate goes on after its cuts, each loop head is one
   pub full_of : (cuts : List PointId) (n : ℕ) (lines : List Line) (l : Line) (last : Reading) → starts_cut (l ∷ lines) ≡ false
       → lines_at n (l ∷ lines) (cutting_at Certificate cuts) ≡ Ok last → has_all_heads flow cuts ≡ true
   full_of cuts n lines (line.Header version form) last starts e = absurd (cc e)

@@ -5,9 +5,10 @@ use Rattle.std.specs.List.{AllByRecursion}
 use Rattle.mc_base.specs.declared.ids.NodeId.{NodeId}
 use Rattle.mc_base.specs.declared.ids.PointId.{PointId}
 use Rattle.mc_base.specs.declared.plain.VarInfo.{VarInfo}
+use Rattle.mc_state.specs.declared.line.InstrRule.{InstrRule}
 use Rattle.mc_lines.specs.declared.cert.line.Line.{Line}
-use Rattle.mc_lines.specs.declared.cert.line.Line.TheVariants.{Header, Cut, Head, Pass, End, S1, S2, S3, S4, S5, S6, S7, S8, S9, S10, S11, S12, S13, S14, S15, S16, S17, S18}
-use Rattle.mc_lines.specs.declared.cert.line.Line.TheVariants.{L1, L2, L3, L4, L5, L6, L7, L8, L9, L10, L11, L12, L13, L14, L15, C1, C2, C3}
+use Rattle.mc_lines.specs.declared.cert.line.Line.TheVariants.{Header, Cut, Head, Pass, End, Step, L1, L2, L3, L4, L5, L6, L7, L8, L9, L10}
+use Rattle.mc_lines.specs.declared.cert.line.Line.TheVariants.{L11, L12, L13, L14, L15, C1, C2, C3}
 use Rattle.mc_flow.specs.declared.defs.rules.Def.{Def}
 use Rattle.mc_flow.specs.Defs.Conditions.{IsDefs}
 use Rattle.mc_flow.specs.declared.graph.Flow.{Flow}
@@ -23,9 +24,6 @@ use Rattle.mc_rules_logic.specs.Back.Laws as back
 use Rattle.mc_rules_steps.specs.Next.{Next}
 use Rattle.mc_rules_steps.specs.JudgedLaws as step
 use Rattle.mc_rules_steps.specs.JudgedLaws.{IsMadeFor}
-use Rattle.mc_rules_steps.specs.Laws.{IsStep}
-use Rattle.mc_rules_steps.specs.Laws as rule
-use Rattle.mc_rules_steps.specs.Steps.{S1Is, S2Is, S3Is, S4Is, S5Is, S6Is, S7Is, S8Is, S9Is, S10Is, S11Is, S12Is, S13Is, S14Is, S15Is, S16Is, S17Is, S18Is}
 use Rattle.mc_kernel.specs.Branches.{Path, Setting, closes_by, entry_path, merged_goal, path_of, path_to, with_state}
 use Rattle.mc_kernel.specs.Instances.{IsInstance, ByStep, accessed}
 use Rattle.mc_kernel.specs.Reading.Documents.{IsMade}
@@ -68,12 +66,11 @@ module _ (makes : Makes) (flow : Flow) (defs : List Def) (g : Setting) (valid : 
   stepped_made [] a = tt
   stepped_made (n ∷ steps) a = (path_made n.point n.state n.goal a.0.0, stepped_made steps a.1)
 
-  by_step : (Rule : Flow → PointId → State → List Next → Type 0) → ((p : PointId) (s : State) (next : List Next) → Rule flow p s next → IsStep flow p s next)
-      → (b : Path) (next : List Path) → IsMade flow defs b → ByStep Rule flow g b next → AllByRecursion (IsMade flow defs) next
-  by_step Rule is b next made i =
+  by_step : (rule : InstrRule) (b : Path) (next : List Path) → IsMade flow defs b → ByStep rule flow g b next → AllByRecursion (IsMade flow defs) next
+  by_step rule b next made i =
       let steps = i.1 in
       subst (AllByRecursion (IsMade flow defs)) (sym steps.2)
-      (stepped_made steps.0 (makes.steps flow defs b.point b.state steps.0 valid made (is b.point b.state steps.0 steps.1)))
+      (stepped_made steps.0 (makes.steps flow defs b.point b.state steps.0 valid made (rule, steps.1)))
 
   -- branches with other states
   by_states : (f : State → Path) (states : List State) (next : List Path) → next ≡ map f states → AllByRecursion (λ s. IsMade flow defs (f s)) states → AllByRecursion (IsMade flow defs) next
@@ -91,24 +88,7 @@ module _ (makes : Makes) (flow : Flow) (defs : List Def) (g : Setting) (valid : 
   merged keep gone b s = record { point = b.point; state = s; goal = option_map (merged_goal keep gone) b.goal; moved = b.moved; closing = b.closing }
 
   pub line_made : (l : Line) (b : Path) (next : List Path) → IsMade flow defs b → IsInstance flow defs g l b next → AllByRecursion (IsMade flow defs) next
-  line_made S1 b next made i = by_step S1Is (λ p s n r. rule.S1 r) b next made i
-  line_made S2 b next made i = by_step S2Is (λ p s n r. rule.S2 r) b next made i
-  line_made S3 b next made i = by_step S3Is (λ p s n r. rule.S3 r) b next made i
-  line_made S4 b next made i = by_step S4Is (λ p s n r. rule.S4 r) b next made i
-  line_made S5 b next made i = by_step S5Is (λ p s n r. rule.S5 r) b next made i
-  line_made S6 b next made i = by_step S6Is (λ p s n r. rule.S6 r) b next made i
-  line_made S7 b next made i = by_step S7Is (λ p s n r. rule.S7 r) b next made i
-  line_made S8 b next made i = by_step S8Is (λ p s n r. rule.S8 r) b next made i
-  line_made S9 b next made i = by_step S9Is (λ p s n r. rule.S9 r) b next made i
-  line_made S10 b next made i = by_step S10Is (λ p s n r. rule.S10 r) b next made i
-  line_made S11 b next made i = by_step S11Is (λ p s n r. rule.S11 r) b next made i
-  line_made S12 b next made i = by_step S12Is (λ p s n r. rule.S12 r) b next made i
-  line_made S13 b next made i = by_step S13Is (λ p s n r. rule.S13 r) b next made i
-  line_made S14 b next made i = by_step S14Is (λ p s n r. rule.S14 r) b next made i
-  line_made S15 b next made i = by_step S15Is (λ p s n r. rule.S15 r) b next made i
-  line_made S16 b next made i = by_step S16Is (λ p s n r. rule.S16 r) b next made i
-  line_made S17 b next made i = by_step S17Is (λ p s n r. rule.S17 r) b next made i
-  line_made S18 b next made i = by_step S18Is (λ p s n r. rule.S18 r) b next made i
+  line_made (Step rule) b next made i = by_step rule b next made i
   line_made (L1 edge) b next made i =
       let u = i.1 in
       by_states (with_state b) u.0 next u.2 (makes.ind defs flow.vars flow.structs.list (accessed flow b) edge b.state u.0 valid.definitions made u.1)
@@ -118,10 +98,10 @@ module _ (makes : Makes) (flow : Flow) (defs : List Def) (g : Setting) (valid : 
   line_made (L15 edge) b next made i =
       let u = i.1 in
       by_states (with_state b) u.0 next u.2 (makes.back defs flow.vars flow.structs.list (accessed flow b) edge b.state u.0 valid.definitions made u.1)
-  line_made (L3 pred rule names block edges) b next made i =
-      by_states (folded b) i.0 next i.2 (makes.fold_ind defs flow.vars flow.structs.list pred rule names block edges b.state i.0 defined i.1 made)
-  line_made (L4 pred rule names block edges call) b next made i =
-      by_states (folded b) i.0 next i.2 (makes.fold_seg defs flow.vars flow.structs.list pred rule names block edges call b.state i.0 defined i.1 made)
+  line_made (L3 fold) b next made i =
+      by_states (folded b) i.0 next i.2 (makes.fold_ind defs flow.vars flow.structs.list fold b.state i.0 defined i.1 made)
+  line_made (L4 fold) b next made i =
+      by_states (folded b) i.0 next i.2 (makes.fold_seg defs flow.vars flow.structs.list fold b.state i.0 defined i.1 made)
   line_made (L5 first second) b next made i = by_states (folded b) i.0 next i.2 (makes.close defs flow.vars flow.structs.list first second b.state i.0 i.1 made)
   line_made (L6 first second) b next made i = by_states (folded b) i.0 next i.2 (makes.join defs flow.vars flow.structs.list first second b.state i.0 i.1 made)
   line_made (L7 pred at args stop ends) b next made i =

@@ -34,7 +34,7 @@ module _ (k : Knowledge) (well : RawState → Bool) (flow : Flow) (defs : List D
       behind_yes n (reading_line k well flow defs l r) (lines_at (suc n) (before ++ lines)) read.0 read.1
       ∙ lines_split (suc n) m before lines read.0 mid next read.2
 
-  -- the lines before the first refused one, this one, and those behind it
+  -- the lines before the first refused one, this one, and those after it
   record Split (n : ℕ) (lines : List Line) (r : Reading) (number premise : ℕ) : Type 0 where
     pub before : List Line
     pub refused : Line

@@ -23,7 +23,7 @@ use Rattle.mc_kernel.specs.Reading.Documents.{IsMade, IsJudge}
 use Rattle.mc_kernel.proofs.ReadingLemmas.Lists.{all_join, append_none, append_twice}
 use Rattle.mc_kernel.proofs.ReadingLemmas.Made.{Makes, line_made}
 
--- what is read behind a line is read where the line is
+-- what is read after a line is read where the line is
 pub behind_ok : (n : ℕ) (j : Judged Reading) (rest : Reading → Result Reading (ℕ × ℕ)) (last : Reading)
     → behind n j rest ≡ Ok last → (r : Reading) × (j ≡ Ok r) × (rest r ≡ Ok last)
 behind_ok n (Ok r) rest last e = (r, refl, e)

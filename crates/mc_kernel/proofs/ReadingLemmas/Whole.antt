@@ -80,7 +80,7 @@ module _ (right : Right) (k : Knowledge) (well : RawState → Bool) (flow : Flow
 
   -- ---- certificates
 
-  -- behind the cuts
+  -- after the cuts
   rest_from : (cuts : List PointId) (n : ℕ) (lines : List Line) (last : Reading) → starts_cut lines ≡ false → lines_at n lines (cutting_at Certificate cuts) ≡ Ok last → last.stage ≡ finished
       → (has_all_heads flow cuts ≡ true) × (lines_at n lines (heading_at cuts []) ≡ Ok last)
   rest_from cuts n [] last starts e f = absurd (cutting_still Certificate cuts last e f)
@@ -88,7 +88,7 @@ module _ (right : Right) (k : Knowledge) (well : RawState → Bool) (flow : Flow
       let full = full_of k well flow defs judge cuts n lines l last starts e in
       (full, sym (from_cuts k well flow defs judge cuts n lines l full starts) ∙ e)
 
-  -- behind the heads
+  -- after the heads
   roots_from : (cuts : List PointId) (heads : List WrittenHead) (n : ℕ) (lines : List Line) (last : Reading) → has_all_heads flow cuts ≡ true
       → AllByRecursion (IsMade flow defs) (roots flow (states_of heads)) → starts_head lines ≡ false
       → lines_at n lines (heading_at cuts heads) ≡ Ok last → last.stage ≡ finished
@@ -184,7 +184,7 @@ module _ (right : Right) (k : Knowledge) (well : RawState → Bool) (flow : Flow
   pass_opens cuts n lines full =
       ap (λ (b : Bool). behind n (need 1 b (Ok (ruling_at Chain cuts [] (roots flow []) []))) (lines_at (suc n) lines)) full
 
-  -- what a chain has behind its cuts
+  -- what a chain has after its cuts
   record PassOf (cuts : List PointId) (n : ℕ) (lines : List Line) (last : Reading) : Type 0 where
     pub rest : List Line
     pub spelled : lines ≡ line.Pass ∷ rest

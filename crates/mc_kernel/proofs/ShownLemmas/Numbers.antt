@@ -1,5 +1,5 @@
 -- What a test that tells says of a state whose atoms are true by some numbers.
-use Rattle.std.proofs.Common.{◌≡◌, ◌<◌, ◌≤◌, ℕ, zero, suc, pos, Bool, true, false, not, Some, List, [], ◌∷◌, length, slice_get, refl, subst, arith}
+use Rattle.std.proofs.Common.{◌≡◌, ◌≤◌, ℕ, zero, suc, pos, true, false, not, Some, List, [], ◌∷◌, length, slice_get, subst, arith}
 use Rattle.std.proofs.lemmas.Int.{ints}
 use Rattle.std.specs.Prelude.{ℤ, get_or}
 use Rattle.std.specs.List.{AllByRecursion}
@@ -12,10 +12,11 @@ use Rattle.mc_base.specs.Kinds.{InKind}
 use Rattle.mc_base.specs.Nodes.{Valuation}
 use Rattle.mc_pure.specs.Laws.{IsTrue, DerivedIsTrue, TrueIsNotFalse}
 use Rattle.mc_pure.specs.Pure as known
-use Rattle.mc_pure.specs.Pure.{Pure, Base, kind_atom, address_atom}
+use Rattle.mc_pure.specs.Pure.{Pure, kind_atom, address_atom}
 use Rattle.mc_state.specs.Known.{Test, Tells, is_false}
 use Rattle.mc_state.proofs.Tests.{is_sound}
 use Rattle.mc_state.specs.State.{State, pure_of}
+use Rattle.mc_rules_logic.proofs.FoldLemmas.Refusing.{not_true, place_below}
 
 -- the nodes from 1 on have these values
 abbrev pub valued : List ℤ → Valuation
@@ -24,11 +25,6 @@ valued values n = get_or (pos 0 ∷ values) n (pos 0)
 kind_true : (v : Valuation) (n : NodeId) (kind : Kind) → InKind kind (v n.0) → IsTrueAtom v (kind_atom n kind)
 kind_true v n Int h = h
 kind_true v n Ptr h = h
-
-place_below : {X : Type 0} (xs : List X) (i : ℕ) (x : X) → slice_get xs i ≡ Some x → i < length xs
-place_below [] i x e = absurd (cc e)
-place_below (y ∷ ys) zero x e = omega arith
-place_below (y ∷ ys) (suc i) x e = let rest = place_below ys i x e in omega arith
 
 pub all_at : {X : Type 0} (P : X → Type 0) (xs : List X) (place : ℕ) (x : X) → slice_get xs place ≡ Some x → AllByRecursion P xs → P x
 all_at P [] place x e a = absurd (cc e)
@@ -47,10 +43,6 @@ numbers_fit v p start kinds atoms starts few _ (known.apart {a} {b} i j ne x y) 
     let first = place_below p.starts i a x in
     let second = place_below p.starts j b y in
     absurd (ne (omega arith))
-
-not_true : (b : Bool) → (b ≡ true → ⊥) → b ≡ false
-not_true true n = absurd (n refl)
-not_true false n = refl
 
 module _ (truth : DerivedIsTrue) (sound : TrueIsNotFalse) (s : State) (v : Valuation) (fits : IsTrue v (pure_of s)) (know : Test) (tells : Tells know s) where
   pub passes : not (is_false know) ≡ true

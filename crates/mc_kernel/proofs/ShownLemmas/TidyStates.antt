@@ -62,7 +62,7 @@ module _ (truth : DerivedIsTrue) (sound : TrueIsNotFalse) where
   one_value : (s : State) (v : Valuation) → IsTrue v (pure_of s) → (a b : NodeId) → AreEqual s a b → v a.0 ≡ v b.0
   one_value s v fits a b e = let sum : v a.0 ≡ v b.0 +ℤ pos 0 = truth (pure_of s) v fits (Eq a b (pos 0)) e in plus_none (v a.0) (v b.0) sum
 
-  -- where a node is told by its value, none are merged
+  -- where a node is known by its value, none are merged
   never_merged : (s : State) (v : Valuation) → IsTrue v (pure_of s) → ((n : ℕ) → Among (0 ∷ map (λ k. k.0.0) s.kinds) n → node_of_value (v n) ≡ n)
       → (keep gone : NodeId) → CanMerge s.kinds keep gone → AreEqual s keep gone → ⊥
   never_merged s v fits told keep gone can e =

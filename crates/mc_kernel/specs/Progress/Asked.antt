@@ -7,6 +7,7 @@ use Rattle.mc_base.specs.declared.ids.EdgeId.{EdgeId}
 use Rattle.mc_base.specs.declared.ids.NodeId.{NodeId}
 use Rattle.mc_base.specs.declared.ids.StructId.{StructId}
 use Rattle.mc_base.specs.Nodes.{null}
+use Rattle.mc_state.specs.declared.line.InstrRule.TheVariants.{S1, S2, S3, S4, S5, S6, S7, S8, S9, S10, S11, S12, S13, S14, S15, S16, S17, S18}
 use Rattle.mc_lines.specs.declared.cert.line.Line.{Line}
 use Rattle.mc_lines.specs.declared.cert.line.Line.TheVariants as line
 use Rattle.mc_flow.specs.declared.defs.rules.Def.{Def}
@@ -80,7 +81,7 @@ at_block know shape l es n = if list_any (is_shaped_at know n shape) es then Som
 
 -- the line that frees null, or a block that is there
 abbrev pub freeing : Test → Edges → NodeId → Option Line
-freeing know es n = if equal know n null then Some line.S11 else if list_any (is_block_at know n) es then Some line.S12 else None
+freeing know es n = if equal know n null then Some (line.Step S11) else if list_any (is_block_at know n) es then Some (line.Step S12) else None
 
 -- the node of what is freed, where it is known: of constants, 0 alone is a pointer
 abbrev pub freed_node : State → Operand → Option NodeId
@@ -89,23 +90,23 @@ freed_node s (Const c) = if int_eq c (pos 0) then Some null else None
 
 -- the line of an instruction that lacks nothing, where it is an instance: at an access, where the block is there
 abbrev pub instance : Test → State → Instr → Option Line
-instance know s (Skip q) = Some line.S1
-instance know s (Copy x o q) = Some line.S2
-instance know s (Undef xs q) = Some line.S3
-instance know s (Input x q) = Some line.S4
-instance know s (Add x o p q) = Some line.S5
-instance know s (Sub x o p q) = Some line.S6
-instance know s (Mul x o p q) = Some line.S7
-instance know s (Load x y shape f q) = option_and_then (at_block know shape line.S8 s.graph.edges) (var_node s y)
-instance know s (Store y shape f o q) = option_and_then (at_block know shape line.S9 s.graph.edges) (var_node s y)
-instance know s (Malloc x shape q) = Some line.S10
+instance know s (Skip q) = Some (line.Step S1)
+instance know s (Copy x o q) = Some (line.Step S2)
+instance know s (Undef xs q) = Some (line.Step S3)
+instance know s (Input x q) = Some (line.Step S4)
+instance know s (Add x o p q) = Some (line.Step S5)
+instance know s (Sub x o p q) = Some (line.Step S6)
+instance know s (Mul x o p q) = Some (line.Step S7)
+instance know s (Load x y shape f q) = option_and_then (at_block know shape (line.Step S8) s.graph.edges) (var_node s y)
+instance know s (Store y shape f o q) = option_and_then (at_block know shape (line.Step S9) s.graph.edges) (var_node s y)
+instance know s (Malloc x shape q) = Some (line.Step S10)
 instance know s (Free o q) = option_and_then (freeing know s.graph.edges) (freed_node s o)
-instance know s (TestEq o p t f) = Some line.S13
-instance know s (TestLe o p t f) = Some line.S14
-instance know s (AssumeShape pred x os q) = Some line.S15
-instance know s (AssertShape pred o os q) = Some line.S16
-instance know s (AssertEmpty q) = Some line.S18
-instance know s End = Some line.S17
+instance know s (TestEq o p t f) = Some (line.Step S13)
+instance know s (TestLe o p t f) = Some (line.Step S14)
+instance know s (AssumeShape pred x os q) = Some (line.Step S15)
+instance know s (AssertShape pred o os q) = Some (line.Step S16)
+instance know s (AssertEmpty q) = Some (line.Step S18)
+instance know s End = Some (line.Step S17)
 instance know s Fail = None
 
 -- that line, or the one that unfolds what the instruction accesses

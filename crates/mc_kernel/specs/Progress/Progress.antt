@@ -14,24 +14,7 @@ use Rattle.mc_kernel.specs.Reading.Documents.{IsMade}
 
 -- the line is one of an instruction, one that unfolds an edge, or the one that ends a false state
 abbrev pub advances : Line → Bool
-advances line.S1 = true
-advances line.S2 = true
-advances line.S3 = true
-advances line.S4 = true
-advances line.S5 = true
-advances line.S6 = true
-advances line.S7 = true
-advances line.S8 = true
-advances line.S9 = true
-advances line.S10 = true
-advances line.S11 = true
-advances line.S12 = true
-advances line.S13 = true
-advances line.S14 = true
-advances line.S15 = true
-advances line.S16 = true
-advances line.S17 = true
-advances line.S18 = true
+advances (line.Step rule) = true
 advances (line.L1 edge) = true
 advances (line.L2 edge) = true
 advances line.L12 = true

@@ -30,13 +30,13 @@ pub record IsJudge (k : Knowledge) (well : RawState → Bool) (flow : Flow) (def
   pub asked : (b : Path) → IsMade flow defs b → IsAsked k flow defs b
   pub formed : (raw : RawState) → (well raw ≡ true) ↔ IsWellFormedRaw defs flow.vars flow.structs.list raw
 
--- what a document of a form becomes by the lines behind its header, or the number of the first refused line with its
+-- what a document of a form becomes by the lines after its header, or the number of the first refused line with its
 -- first unmet premise
 abbrev pub reading_document : Knowledge → (RawState → Bool) → Flow → List Def → Form → List Line
     → Result Reading (ℕ × ℕ)
 reading_document k well flow defs form lines = reading_lines k well flow defs 2 lines (begun form)
 
--- the lines behind its header end the document, and these branches are stuck
+-- the lines after its header end the document, and these branches are stuck
 pub record Ends (k : Knowledge) (well : RawState → Bool) (flow : Flow) (defs : List Def) (form : Form)
     (lines : List Line) (stuck : List Path) : Type 0 where
   pub last : Reading
@@ -44,7 +44,7 @@ pub record Ends (k : Knowledge) (well : RawState → Bool) (flow : Flow) (defs :
   pub ended : last.stage ≡ finished
   pub stuck_are : last.stuck ≡ stuck
 
--- the lines behind its header are read, and the document has not ended
+-- the lines after its header are read, and the document has not ended
 pub record IsOpen (k : Knowledge) (well : RawState → Bool) (flow : Flow) (defs : List Def) (form : Form)
     (lines : List Line) : Type 0 where
   pub last : Reading

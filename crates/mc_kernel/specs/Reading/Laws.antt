@@ -47,14 +47,14 @@ RulesAreRead =
 
 -- ---- whole documents
 
--- the lines behind a certificate's header end it exactly where the document is a valid certificate
+-- the lines after a certificate's header end it exactly where the document is a valid certificate
 abbrev pub CertificatesAreRead : Type 0
 CertificatesAreRead =
     (k : Knowledge) (well : RawState → Bool) (flow : Flow) (defs : List Def) (lines : List Line)
     → IsValid flow defs → IsJudge k well flow defs
     → Ends k well flow defs Certificate lines [] ↔ IsValidCertificate flow defs (Header One Certificate ∷ lines)
 
--- the lines behind a chain's header end it exactly where the document is a chain of one pass, with the same stuck
+-- the lines after a chain's header end it exactly where the document is a chain of one pass, with the same stuck
 -- branches
 abbrev pub ChainsAreRead : Type 0
 ChainsAreRead =

@@ -54,7 +54,7 @@ length_goal = record { pred = lenlist_id; at = node 1; args = node 2 ∷ [] }
 abbrev pub side : State → Path
 side s = record { point = at 1; state = s; goal = Some length_goal; moved = true; closing = false }
 
--- ["L11",node] fails a premise at a branch, whatever tells what is derived there
+-- ["L11",node] fails a premise at a branch, whatever tells what is entailed there
 abbrev pub NotForgotten : Path → NodeId → ℕ → Type 0
 NotForgotten b n premise =
     (k : Knowledge) → Tells (k.know b.state) b.state → judged_line k flow defs setting (L11 n) b ≡ Err premise

@@ -69,7 +69,7 @@ not_whole = record two_names { whole = false }
 abbrev pub list_goal : Goal
 list_goal = record { pred = list_id; at = node 1; args = [] }
 
--- ["L13",j,images,edges] fails a premise at a branch, whatever tells what is derived there
+-- ["L13",j,images,edges] fails a premise at a branch, whatever tells what is entailed there
 abbrev pub FailsAt : Path → ℕ → List NodeId → List EdgeId → ℕ → Type 0
 FailsAt b j images edges premise =
     (k : Knowledge) → Tells (k.know b.state) b.state

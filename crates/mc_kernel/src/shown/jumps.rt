@@ -42,7 +42,7 @@ pub fn jumps_of_images()
     mc_pure::derived_is_true();
 }
 
-/// No edge, and one twice; an edge that is not there, and a cell for a list; an atom that is not derived; from a
+/// No edge, and one twice; an edge that is not there, and a cell for a list; an atom that is not entailed; from a
 /// state that is not whole to one that is, and with an edge left.
 pub fn jumps_of_parts()
     ensures few { FailsAt (arrived two_names) 0 (null ∷ node 1 ∷ []) [] 6 }

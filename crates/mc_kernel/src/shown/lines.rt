@@ -1,13 +1,14 @@
 // Lines that stand out of place.
 ghost use Rattle.std.specs.Prelude.{[]};
-ghost use Rattle.mc_lines.specs.declared.cert.line.Line.TheVariants.{Header, Cut, Head, Pass, End, S1, C1, C2, C3};
+ghost use Rattle.mc_state.specs.declared.line.InstrRule.TheVariants.{S1};
+ghost use Rattle.mc_lines.specs.declared.cert.line.Line.TheVariants.{Header, Cut, Head, Pass, End, Step, C1, C2, C3};
 ghost use Rattle.mc_state.specs.declared.line.Form.TheVariants.{Certificate, Chain};
 ghost use Rattle.mc_state.specs.declared.line.Version.TheVariants.{One};
 ghost use Rattle.mc_kernel.specs.Examples.{at, loop_state};
 ghost use Rattle.mc_kernel.specs.Readings.{begun};
 ghost use Rattle.mc_kernel.specs.Shown.Lines.{Refuses, one_cut, one_head, one_pass, closed_pass, one_end};
 
-/// A cut at an input, at no point, twice, and behind a head; a head where the loop's head is no cut, at no cut,
+/// A cut at an input, at no point, twice, and after a head; a head where the loop's head is no cut, at no cut,
 /// before the last head, and in a chain; and a header.
 pub fn cuts_and_heads_out_of_place()
     ensures input { Refuses (begun Certificate) (Cut (at 2)) 3 }
@@ -24,12 +25,12 @@ pub fn cuts_and_heads_out_of_place()
 {}
 
 /// A rule where the loop's head is no cut, before a pass, and where no branch is open; a pass in a certificate, and
-/// one behind a pass that changed nothing; a pass and the end where the loop's head is no cut; the end where the
-/// roots or other branches are open, and before a pass; steps of chains that are not judged yet; and lines behind the
+/// one after a pass that changed nothing; a pass and the end where the loop's head is no cut; the end where the
+/// roots or other branches are open, and before a pass; steps of chains that are not judged yet; and lines after the
 /// end.
 pub fn rules_out_of_place()
-    ensures uncut { Refuses (begun Certificate) S1 1 }
-    ensures no_pass { Refuses (one_cut Chain) S1 1 }
+    ensures uncut { Refuses (begun Certificate) (Step S1) 1 }
+    ensures no_pass { Refuses (one_cut Chain) (Step S1) 1 }
     ensures no_branch { Refuses closed_pass C1 1 }
     ensures in_certificate { Refuses (one_cut Certificate) Pass 1 }
     ensures again { Refuses closed_pass Pass 3 }
@@ -41,5 +42,5 @@ pub fn rules_out_of_place()
     ensures new_state { Refuses one_pass (C2 []) 1 }
     ensures joined { Refuses one_pass (C3 0 []) 1 }
     ensures behind_end { Refuses one_end End 1 }
-    ensures rule_behind_end { Refuses one_end S1 1 }
+    ensures rule_behind_end { Refuses one_end (Step S1) 1 }
 {}

@@ -20,7 +20,7 @@ values_in (string s) = []
 values_in (array ds) = items_in ds
 values_in (object ms) = []
 
-items_back : (ds : List Data) → items_in (items_of ds) ≡ ds
+pub items_back : (ds : List Data) → items_in (items_of ds) ≡ ds
 items_back [] = refl
 items_back (d ∷ ds) = ap (λ es. d ∷ es) (items_back ds)
 
@@ -34,7 +34,7 @@ abbrev behind_first : List Data → List Data
 behind_first [] = []
 behind_first (d ∷ ds) = ds
 
--- the values behind the first
+-- the values after the first
 abbrev pub entries_in : Data → List Data
 entries_in d = behind_first (values_in d)
 
@@ -66,7 +66,7 @@ abbrev pub Either : Bool → Type 0 → Type 0 → Type 0
 Either true P Q = P
 Either false P Q = Q
 
--- what holds of the name and the entries behind it
+-- what holds of the name and the entries after it
 abbrev pub OfNamed : (List ℕ → List Data → Type 0) → List Data → Type 0
 OfNamed P [] = ⊥
 OfNamed P (null ∷ ds) = ⊥

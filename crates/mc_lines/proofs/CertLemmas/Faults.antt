@@ -7,7 +7,7 @@ use Rattle.mc_lines.specs.declared.cert.fault.LineFault.TheVariants.{NotJson, Fo
 use Rattle.mc_lines.specs.Cert.Entries.{named_data}
 use Rattle.mc_lines.specs.Cert.Reads.{Reads}
 
-pass_on : {D T E U : Type 0} (spelled : T → D) (fits : T → Type 0) (d : D) (whole : U → E) (suits : U → Type 0) (w : E) → ((y : U) → suits y → w ≡ whole y → (x : T) × fits x × (d ≡ spelled x)) → (e : LineFault) → Reads spelled fits d (Err e) → Reads whole suits w (Err e)
+pub pass_on : {D T E U : Type 0} (spelled : T → D) (fits : T → Type 0) (d : D) (whole : U → E) (suits : U → Type 0) (w : E) → ((y : U) → suits y → w ≡ whole y → (x : T) × fits x × (d ≡ spelled x)) → (e : LineFault) → Reads spelled fits d (Err e) → Reads whole suits w (Err e)
 pass_on spelled fits d whole suits w within NotJson r = r
 pass_on spelled fits d whole suits w within Form r = λ y f e. let x = within y f e in r x.0 x.1 x.2
 pass_on spelled fits d whole suits w within Version r = r

@@ -25,9 +25,10 @@ use Rattle.mc_state.specs.declared.raw_state.NodeKind.{NodeKind}
 use Rattle.mc_state.specs.declared.raw_state.NodeKind.TheVariants.{Zero, Int, Ptr}
 use Rattle.mc_state.specs.declared.raw_state.RawState.{RawState}
 use Rattle.mc_lines.specs.declared.cert.line.Line.{Line}
-use Rattle.mc_lines.specs.declared.cert.line.Line.TheVariants.{Header, Cut, Head, Pass, End, S1, S2, S3, S4, S5, S6, S7, S8, S9, S10, S11, S12, S13, S14, S15, S16, S17, S18, L1, L2, L3, L4, L5, L6, L7, L8, L9, L10, L11, L12, L13, L14, L15, C1, C2, C3}
+use Rattle.mc_lines.specs.declared.cert.line.Line.TheVariants.{Header, Cut, Head, Pass, End, Step, L1, L2, L3, L4, L5, L6, L7, L8, L9, L10}
+use Rattle.mc_lines.specs.declared.cert.line.Line.TheVariants.{L11, L12, L13, L14, L15, C1, C2, C3}
 use Rattle.mc_lines.specs.Cert.Document.{LineFits, Spells, data_of}
-use Rattle.mc_lines.specs.Cert.Entries.{atom_data, count_data, edge_data, edge_id_data, form_data, kind_data, list_data, named_data, node_data, node_kind_data, option_data, side_data, signed_data, state_data, step_data, values_data, version_data, whole_entry, word_data}
+use Rattle.mc_lines.specs.Cert.Entries.{atom_data, count_data, edge_data, edge_id_data, form_data, ind_entries, kind_data, list_data, named_data, node_data, node_kind_data, option_data, rule_name, seg_entries, side_data, signed_data, state_data, step_data, values_data, version_data, whole_entry, word_data}
 
 -- no float stands in it, and it nests at most so deep
 abbrev pub IsFlat : ℕ → Data → Type 0
@@ -172,32 +173,15 @@ line_flat (Cut p) = one_flat 126 (codes "cut") (count_data p.0) (count_flat 126 
 line_flat (Head p raw) = two_flat 126 (codes "head") (count_data p.0) (state_data raw) (count_flat 126 p.0) (state_flat 122 raw)
 line_flat Pass = plain_flat 126 (codes "pass")
 line_flat End = plain_flat 126 (codes "end")
-line_flat S1 = plain_flat 126 (codes "S1")
-line_flat S2 = plain_flat 126 (codes "S2")
-line_flat S3 = plain_flat 126 (codes "S3")
-line_flat S4 = plain_flat 126 (codes "S4")
-line_flat S5 = plain_flat 126 (codes "S5")
-line_flat S6 = plain_flat 126 (codes "S6")
-line_flat S7 = plain_flat 126 (codes "S7")
-line_flat S8 = plain_flat 126 (codes "S8")
-line_flat S9 = plain_flat 126 (codes "S9")
-line_flat S10 = plain_flat 126 (codes "S10")
-line_flat S11 = plain_flat 126 (codes "S11")
-line_flat S12 = plain_flat 126 (codes "S12")
-line_flat S13 = plain_flat 126 (codes "S13")
-line_flat S14 = plain_flat 126 (codes "S14")
-line_flat S15 = plain_flat 126 (codes "S15")
-line_flat S16 = plain_flat 126 (codes "S16")
-line_flat S17 = plain_flat 126 (codes "S17")
-line_flat S18 = plain_flat 126 (codes "S18")
+line_flat (Step rule) = plain_flat 126 (rule_name rule)
 line_flat (L1 e) = one_flat 126 (codes "L1") (edge_id_data e) (count_flat 126 e.0)
 line_flat (L2 e) = one_flat 126 (codes "L2") (edge_id_data e) (count_flat 126 e.0)
-line_flat (L3 pred rule names block calls) =
-    named_flat 126 (codes "L3") (count_data pred.0 ∷ count_data rule ∷ list_data node_data names ∷ option_data edge_id_data block ∷ list_data edge_id_data calls ∷ [])
-    (count_flat 126 pred.0, (count_flat 126 rule, (nodes_flat 125 names, (block_flat 126 block, (edge_ids_flat 125 calls, tt)))))
-line_flat (L4 pred rule names block calls call) =
-    named_flat 126 (codes "L4") (count_data pred.0 ∷ count_data rule ∷ list_data node_data names ∷ edge_id_data block ∷ list_data edge_id_data calls ∷ count_data call ∷ [])
-    (count_flat 126 pred.0, (count_flat 126 rule, (nodes_flat 125 names, (count_flat 126 block.0, (edge_ids_flat 125 calls, (count_flat 126 call, tt))))))
+line_flat (L3 fold) =
+    named_flat 126 (codes "L3") (ind_entries fold)
+    (count_flat 126 fold.pred.0, (count_flat 126 fold.rule, (nodes_flat 125 fold.names, (block_flat 126 fold.block, (edge_ids_flat 125 fold.edges, tt)))))
+line_flat (L4 fold) =
+    named_flat 126 (codes "L4") (seg_entries fold)
+    (count_flat 126 fold.pred.0, (count_flat 126 fold.rule, (nodes_flat 125 fold.names, (count_flat 126 fold.block.0, (edge_ids_flat 125 fold.edges, (count_flat 126 fold.call, tt))))))
 line_flat (L5 i j) = two_flat 126 (codes "L5") (edge_id_data i) (edge_id_data j) (count_flat 126 i.0) (count_flat 126 j.0)
 line_flat (L6 i j) = two_flat 126 (codes "L6") (edge_id_data i) (edge_id_data j) (count_flat 126 i.0) (count_flat 126 j.0)
 line_flat (L7 pred a args b ends) =

@@ -1,6 +1,6 @@
 -- Which line an array can be the line of, by its name and the number of its entries.
-use Rattle.std.proofs.Common.{◌≡◌, ◌≢◌, ◌≤◌, ℕ, ℤ, List, [], ◌∷◌, Option, length, map, get_or, arith, ◌∙◌, lit≤, refl, sym, ap, subst}
-use Rattle.std.specs.Prelude.{Result, Ok, Err, codes}
+use Rattle.std.proofs.Common.{◌≡◌, ◌≢◌, ◌≤◌, ◌⊎◌, inl, inr, ℕ, ℤ, List, [], ◌∷◌, Option, Some, None, length, map, get_or, arith, ◌∙◌, lit≤, refl, sym, ap, subst}
+use Rattle.std.specs.Prelude.{Result, Ok, Err, codes, if◌then◌else◌}
 use Rattle.std.specs.Str.{bytes_eq}
 use Rattle.serde_json.specs.Data.{Data}
 use Rattle.mc_base.specs.declared.ids.EdgeId.{EdgeId}
@@ -8,43 +8,98 @@ use Rattle.mc_base.specs.declared.ids.NodeId.{NodeId}
 use Rattle.mc_base.specs.declared.ids.PointId.{PointId}
 use Rattle.mc_base.specs.declared.ids.PredId.{PredId}
 use Rattle.mc_base.specs.declared.plain.Kind.{Kind}
+use Rattle.mc_state.specs.declared.line.FoldInd.{FoldInd}
+use Rattle.mc_state.specs.declared.line.FoldSeg.{FoldSeg}
 use Rattle.mc_state.specs.declared.line.Form.{Form}
+use Rattle.mc_state.specs.declared.line.InstrRule.{InstrRule}
+use Rattle.mc_state.specs.declared.line.InstrRule.TheVariants.{S1, S2, S3, S4, S5, S6, S7, S8, S9, S10, S11, S12, S13, S14, S15, S16, S17, S18}
 use Rattle.mc_state.specs.declared.line.JoinStep.{JoinStep}
 use Rattle.mc_state.specs.declared.line.Version.{Version}
 use Rattle.mc_state.specs.declared.raw_state.RawState.{RawState}
 use Rattle.mc_lines.specs.declared.cert.line.Line.{Line}
-use Rattle.mc_lines.specs.declared.cert.line.Line.TheVariants.{Header, Cut, Head, Pass, End, S1, S2, S3, S4, S5, S6, S7, S8, S9, S10, S11, S12, S13, S14, S15, S16, S17, S18, L1, L2, L3, L4, L5, L6, L7, L8, L9, L10, L11, L12, L13, L14, L15, C1, C2, C3}
+use Rattle.mc_lines.specs.declared.cert.line.Line.TheVariants.{Header, Cut, Head, Pass, End, Step, L1, L2, L3, L4, L5, L6, L7, L8, L9, L10}
+use Rattle.mc_lines.specs.declared.cert.line.Line.TheVariants.{L11, L12, L13, L14, L15, C1, C2, C3}
 use Rattle.mc_lines.specs.declared.cert.fault.LineFault.{LineFault}
 use Rattle.mc_lines.specs.declared.cert.fault.LineFault.TheVariants as faults
 use Rattle.mc_lines.specs.Cert.Document.{IsOtherVersion, LineFits, LineReadsAs, data_of}
 use Rattle.mc_lines.specs.Cert.Reads.{Reads}
-use Rattle.mc_lines.specs.Cert.Entries.{count_data, edge_id_data, form_data, kind_data, list_data, named_data, node_data, option_data, point_data, pred_data, signed_data, state_data, step_data, version_data}
+use Rattle.mc_lines.specs.Cert.Entries.{count_data, edge_id_data, form_data, ind_entries, kind_data, list_data, named_data, node_data, point_data, pred_data, rule_name, seg_entries, signed_data, state_data, step_data, version_data}
 use Rattle.mc_lines.proofs.CertLemmas.Arrays.{Either, IsNamed, OfNamed, entries_back, entries_in, form_of, name_in, named_once, values_in}
 
-abbrev pub Plain : List ℕ → Line → Type 0
-Plain s l =
+-- ---- names of rules
+
+-- the rule of a name
+abbrev pub rule_of : List ℕ → Option InstrRule
+rule_of s =
+    if bytes_eq s (codes "S1") then Some S1
+    else if bytes_eq s (codes "S2") then Some S2
+    else if bytes_eq s (codes "S3") then Some S3
+    else if bytes_eq s (codes "S4") then Some S4
+    else if bytes_eq s (codes "S5") then Some S5
+    else if bytes_eq s (codes "S6") then Some S6
+    else if bytes_eq s (codes "S7") then Some S7
+    else if bytes_eq s (codes "S8") then Some S8
+    else if bytes_eq s (codes "S9") then Some S9
+    else if bytes_eq s (codes "S10") then Some S10
+    else if bytes_eq s (codes "S11") then Some S11
+    else if bytes_eq s (codes "S12") then Some S12
+    else if bytes_eq s (codes "S13") then Some S13
+    else if bytes_eq s (codes "S14") then Some S14
+    else if bytes_eq s (codes "S15") then Some S15
+    else if bytes_eq s (codes "S16") then Some S16
+    else if bytes_eq s (codes "S17") then Some S17
+    else if bytes_eq s (codes "S18") then Some S18
+    else None
+
+pub rule_back : (rule : InstrRule) → rule_of (rule_name rule) ≡ Some rule
+rule_back S1 = refl
+rule_back S2 = refl
+rule_back S3 = refl
+rule_back S4 = refl
+rule_back S5 = refl
+rule_back S6 = refl
+rule_back S7 = refl
+rule_back S8 = refl
+rule_back S9 = refl
+rule_back S10 = refl
+rule_back S11 = refl
+rule_back S12 = refl
+rule_back S13 = refl
+rule_back S14 = refl
+rule_back S15 = refl
+rule_back S16 = refl
+rule_back S17 = refl
+rule_back S18 = refl
+
+-- no two rules have one name
+pub rule_once : (x y : InstrRule) → rule_name x ≡ rule_name y → x ≡ y
+rule_once x y e =
+    let both : Some x ≡ Some y = sym (rule_back x) ∙ ap rule_of e ∙ rule_back y in
+    cc
+
+-- what has a name of no rule is not spelled by a rule
+pub no_rule : (s : List ℕ) (rule : InstrRule) → rule_of s ≡ None → s ≡ rule_name rule → ⊥
+no_rule s rule none e =
+    let both : None ≡ Some rule = sym none ∙ ap rule_of e ∙ rule_back rule in
+    cc
+
+-- ---- what a line with a name and entries is
+
+-- a name that stands alone, of no rule
+abbrev pub Alone : List ℕ → Line → Type 0
+Alone s l =
     Either (bytes_eq s (codes "pass")) (l ≡ Pass)
     (Either (bytes_eq s (codes "end")) (l ≡ End)
-    (Either (bytes_eq s (codes "S1")) (l ≡ S1)
-    (Either (bytes_eq s (codes "S2")) (l ≡ S2)
-    (Either (bytes_eq s (codes "S3")) (l ≡ S3)
-    (Either (bytes_eq s (codes "S4")) (l ≡ S4)
-    (Either (bytes_eq s (codes "S5")) (l ≡ S5)
-    (Either (bytes_eq s (codes "S6")) (l ≡ S6)
-    (Either (bytes_eq s (codes "S7")) (l ≡ S7)
-    (Either (bytes_eq s (codes "S8")) (l ≡ S8)
-    (Either (bytes_eq s (codes "S9")) (l ≡ S9)
-    (Either (bytes_eq s (codes "S10")) (l ≡ S10)
-    (Either (bytes_eq s (codes "S11")) (l ≡ S11)
-    (Either (bytes_eq s (codes "S12")) (l ≡ S12)
-    (Either (bytes_eq s (codes "S13")) (l ≡ S13)
-    (Either (bytes_eq s (codes "S14")) (l ≡ S14)
-    (Either (bytes_eq s (codes "S15")) (l ≡ S15)
-    (Either (bytes_eq s (codes "S16")) (l ≡ S16)
-    (Either (bytes_eq s (codes "S17")) (l ≡ S17)
-    (Either (bytes_eq s (codes "S18")) (l ≡ S18)
     (Either (bytes_eq s (codes "L12")) (l ≡ L12)
-    (Either (bytes_eq s (codes "C1")) (l ≡ C1) ⊥)))))))))))))))))))))
+    (Either (bytes_eq s (codes "C1")) (l ≡ C1) ⊥)))
+
+abbrev pub Plain : List ℕ → Line → Type 0
+Plain s l = ((rule : InstrRule) × (l ≡ Step rule) × (s ≡ rule_name rule)) ⊎ ((rule_of s ≡ None) × Alone s l)
+
+-- a name of no rule
+pub alone : (s : List ℕ) (l : Line) → rule_of s ≡ None → Plain s l → Alone s l
+alone s l none (inl (rule, is, e)) = absurd (no_rule s rule none e)
+alone s l none (inr a) = a.1
 
 abbrev pub OfOne : List ℕ → Data → Line → Type 0
 OfOne s a l =
@@ -73,18 +128,14 @@ OfThree s ds l =
 
 abbrev pub OfFive : List ℕ → List Data → Line → Type 0
 OfFive s ds l =
-    Either (bytes_eq s (codes "L3"))
-    ((pred : PredId) × (rule : ℕ) × (names : List NodeId) × (block : Option EdgeId) × (calls : List EdgeId) × (l ≡ L3 pred rule names block calls)
-    × (ds ≡ pred_data pred ∷ count_data rule ∷ list_data node_data names ∷ option_data edge_id_data block ∷ list_data edge_id_data calls ∷ []))
+    Either (bytes_eq s (codes "L3")) ((fold : FoldInd) × (l ≡ L3 fold) × (ds ≡ ind_entries fold))
     (Either (bytes_eq s (codes "L7"))
     ((pred : PredId) × (a : NodeId) × (args : List NodeId) × (b : NodeId) × (ends : List NodeId) × (l ≡ L7 pred a args b ends)
     × (ds ≡ pred_data pred ∷ node_data a ∷ list_data node_data args ∷ node_data b ∷ list_data node_data ends ∷ [])) ⊥)
 
 abbrev pub OfSix : List ℕ → List Data → Line → Type 0
 OfSix s ds l =
-    Either (bytes_eq s (codes "L4"))
-    ((pred : PredId) × (rule : ℕ) × (names : List NodeId) × (block : EdgeId) × (calls : List EdgeId) × (call : ℕ) × (l ≡ L4 pred rule names block calls call)
-    × (ds ≡ pred_data pred ∷ count_data rule ∷ list_data node_data names ∷ edge_id_data block ∷ list_data edge_id_data calls ∷ count_data call ∷ [])) ⊥
+    Either (bytes_eq s (codes "L4")) ((fold : FoldSeg) × (l ≡ L4 fold) × (ds ≡ seg_entries fold)) ⊥
 
 -- what a line with this name and these entries is
 abbrev pub IsForm : List ℕ → List Data → Line → Type 0
@@ -101,30 +152,13 @@ own : (l : Line) → OfNamed (λ s ds. IsForm s ds l) (values_in (data_of l))
 own (Header v f) = (v, f, refl, refl)
 own (Cut p) = (p, refl, refl)
 own (Head p raw) = (p, raw, refl, refl)
-own Pass = refl
-own End = refl
-own S1 = refl
-own S2 = refl
-own S3 = refl
-own S4 = refl
-own S5 = refl
-own S6 = refl
-own S7 = refl
-own S8 = refl
-own S9 = refl
-own S10 = refl
-own S11 = refl
-own S12 = refl
-own S13 = refl
-own S14 = refl
-own S15 = refl
-own S16 = refl
-own S17 = refl
-own S18 = refl
+own Pass = inr (refl, refl)
+own End = inr (refl, refl)
+own (Step rule) = inl (rule, refl, refl)
 own (L1 e) = (e, refl, refl)
 own (L2 e) = (e, refl, refl)
-own (L3 pred rule names block calls) = (pred, rule, names, block, calls, refl, refl)
-own (L4 pred rule names block calls call) = (pred, rule, names, block, calls, call, refl, refl)
+own (L3 fold) = (fold, refl, refl)
+own (L4 fold) = (fold, refl, refl)
 own (L5 i j) = (i, j, refl, refl)
 own (L6 i j) = (i, j, refl, refl)
 own (L7 pred a args b ends) = (pred, a, args, b, ends, refl, refl)
@@ -132,11 +166,11 @@ own (L8 n c k) = (n, c, k, refl, refl)
 own (L9 n m) = (n, m, refl, refl)
 own (L10 e) = (e, refl, refl)
 own (L11 n) = (n, refl, refl)
-own L12 = refl
+own L12 = inr (refl, refl)
 own (L13 j images edges) = (j, images, edges, refl, refl)
 own (L14 e) = (e, refl, refl)
 own (L15 e) = (e, refl, refl)
-own C1 = refl
+own C1 = inr (refl, refl)
 own (C2 tries) = (tries, refl, refl)
 own (C3 j steps) = (j, steps, refl, refl)
 
@@ -155,28 +189,11 @@ lengths (Cut p) = (λ e. cc, lit≤ tt)
 lengths (Head p raw) = (λ e. cc, lit≤ tt)
 lengths Pass = (λ e. cc, lit≤ tt)
 lengths End = (λ e. cc, lit≤ tt)
-lengths S1 = (λ e. cc, lit≤ tt)
-lengths S2 = (λ e. cc, lit≤ tt)
-lengths S3 = (λ e. cc, lit≤ tt)
-lengths S4 = (λ e. cc, lit≤ tt)
-lengths S5 = (λ e. cc, lit≤ tt)
-lengths S6 = (λ e. cc, lit≤ tt)
-lengths S7 = (λ e. cc, lit≤ tt)
-lengths S8 = (λ e. cc, lit≤ tt)
-lengths S9 = (λ e. cc, lit≤ tt)
-lengths S10 = (λ e. cc, lit≤ tt)
-lengths S11 = (λ e. cc, lit≤ tt)
-lengths S12 = (λ e. cc, lit≤ tt)
-lengths S13 = (λ e. cc, lit≤ tt)
-lengths S14 = (λ e. cc, lit≤ tt)
-lengths S15 = (λ e. cc, lit≤ tt)
-lengths S16 = (λ e. cc, lit≤ tt)
-lengths S17 = (λ e. cc, lit≤ tt)
-lengths S18 = (λ e. cc, lit≤ tt)
+lengths (Step rule) = (λ e. cc, lit≤ tt)
 lengths (L1 e) = (λ e. cc, lit≤ tt)
 lengths (L2 e) = (λ e. cc, lit≤ tt)
-lengths (L3 pred rule names block calls) = (λ e. cc, lit≤ tt)
-lengths (L4 pred rule names block calls call) = (λ e. cc, lit≤ tt)
+lengths (L3 fold) = (λ e. cc, lit≤ tt)
+lengths (L4 fold) = (λ e. cc, lit≤ tt)
 lengths (L5 i j) = (λ e. cc, lit≤ tt)
 lengths (L6 i j) = (λ e. cc, lit≤ tt)
 lengths (L7 pred a args b ends) = (λ e. cc, lit≤ tt)
@@ -219,28 +236,11 @@ line_named (Cut p) = (name_in (data_of (Cut p)), entries_in (data_of (Cut p)), r
 line_named (Head p raw) = (name_in (data_of (Head p raw)), entries_in (data_of (Head p raw)), refl)
 line_named Pass = (name_in (data_of Pass), entries_in (data_of Pass), refl)
 line_named End = (name_in (data_of End), entries_in (data_of End), refl)
-line_named S1 = (name_in (data_of S1), entries_in (data_of S1), refl)
-line_named S2 = (name_in (data_of S2), entries_in (data_of S2), refl)
-line_named S3 = (name_in (data_of S3), entries_in (data_of S3), refl)
-line_named S4 = (name_in (data_of S4), entries_in (data_of S4), refl)
-line_named S5 = (name_in (data_of S5), entries_in (data_of S5), refl)
-line_named S6 = (name_in (data_of S6), entries_in (data_of S6), refl)
-line_named S7 = (name_in (data_of S7), entries_in (data_of S7), refl)
-line_named S8 = (name_in (data_of S8), entries_in (data_of S8), refl)
-line_named S9 = (name_in (data_of S9), entries_in (data_of S9), refl)
-line_named S10 = (name_in (data_of S10), entries_in (data_of S10), refl)
-line_named S11 = (name_in (data_of S11), entries_in (data_of S11), refl)
-line_named S12 = (name_in (data_of S12), entries_in (data_of S12), refl)
-line_named S13 = (name_in (data_of S13), entries_in (data_of S13), refl)
-line_named S14 = (name_in (data_of S14), entries_in (data_of S14), refl)
-line_named S15 = (name_in (data_of S15), entries_in (data_of S15), refl)
-line_named S16 = (name_in (data_of S16), entries_in (data_of S16), refl)
-line_named S17 = (name_in (data_of S17), entries_in (data_of S17), refl)
-line_named S18 = (name_in (data_of S18), entries_in (data_of S18), refl)
+line_named (Step rule) = (rule_name rule, [], refl)
 line_named (L1 e) = (name_in (data_of (L1 e)), entries_in (data_of (L1 e)), refl)
 line_named (L2 e) = (name_in (data_of (L2 e)), entries_in (data_of (L2 e)), refl)
-line_named (L3 pred rule names block calls) = (name_in (data_of (L3 pred rule names block calls)), entries_in (data_of (L3 pred rule names block calls)), refl)
-line_named (L4 pred rule names block calls call) = (name_in (data_of (L4 pred rule names block calls call)), entries_in (data_of (L4 pred rule names block calls call)), refl)
+line_named (L3 fold) = (codes "L3", ind_entries fold, refl)
+line_named (L4 fold) = (codes "L4", seg_entries fold, refl)
 line_named (L5 i j) = (name_in (data_of (L5 i j)), entries_in (data_of (L5 i j)), refl)
 line_named (L6 i j) = (name_in (data_of (L6 i j)), entries_in (data_of (L6 i j)), refl)
 line_named (L7 pred a args b ends) = (name_in (data_of (L7 pred a args b ends)), entries_in (data_of (L7 pred a args b ends)), refl)

@@ -13,8 +13,11 @@ use Rattle.mc_base.specs.declared.plain.Kind.{Kind}
 use Rattle.mc_base.specs.declared.plain.Kind.TheVariants as kind
 use Rattle.mc_state.specs.declared.graph.edge.Edge.{Edge}
 use Rattle.mc_state.specs.declared.graph.edge.Edge.TheVariants.{Block, Ind, Seg}
+use Rattle.mc_state.specs.declared.line.FoldInd.{FoldInd}
+use Rattle.mc_state.specs.declared.line.FoldSeg.{FoldSeg}
 use Rattle.mc_state.specs.declared.line.Form.{Form}
 use Rattle.mc_state.specs.declared.line.Form.TheVariants.{Certificate, Chain}
+use Rattle.mc_state.specs.declared.line.InstrRule.{InstrRule}
 use Rattle.mc_state.specs.declared.line.JoinStep.{JoinStep}
 use Rattle.mc_state.specs.declared.line.JoinStep.TheVariants.{J1, J2, J3, J4, J5, J6, J7}
 use Rattle.mc_state.specs.declared.line.Side.{Side}
@@ -27,11 +30,12 @@ use Rattle.mc_state.specs.declared.raw_state.RawState.{RawState}
 use Rattle.mc_lines.specs.declared.cert.fault.LineFault.{LineFault}
 use Rattle.mc_lines.specs.declared.cert.fault.LineFault.TheVariants as faults
 use Rattle.mc_lines.specs.declared.cert.line.Line.{Line}
-use Rattle.mc_lines.specs.declared.cert.line.Line.TheVariants.{Header, Cut, Head, Pass, End, S1, S2, S3, S4, S5, S6, S7, S8, S9, S10, S11, S12, S13, S14, S15, S16, S17, S18, L1, L2, L3, L4, L5, L6, L7, L8, L9, L10, L11, L12, L13, L14, L15, C1, C2, C3}
+use Rattle.mc_lines.specs.declared.cert.line.Line.TheVariants.{Header, Cut, Head, Pass, End, Step, L1, L2, L3, L4, L5, L6, L7, L8, L9, L10}
+use Rattle.mc_lines.specs.declared.cert.line.Line.TheVariants.{L11, L12, L13, L14, L15, C1, C2, C3}
 use Rattle.mc_lines.specs.Cert.Document.{IsOtherVersion, ReadsAs, Spells, data_of}
-use Rattle.mc_lines.specs.Cert.Entries.{atom_data, count_data, edge_data, edge_id_data, form_data, kind_data, list_data, named_data, node_data, node_kind_data, option_data, point_data, pred_data, side_data, signed_data, state_data, state_entries, step_data, struct_data, version_data, whole_entry}
+use Rattle.mc_lines.specs.Cert.Entries.{atom_data, count_data, edge_data, edge_id_data, form_data, ind_entries, kind_data, list_data, named_data, node_data, node_kind_data, option_data, point_data, pred_data, rule_name, seg_entries, side_data, signed_data, state_data, state_entries, step_data, struct_data, version_data, whole_entry}
 use Rattle.mc_lines.proofs.CertLemmas.Arrays.{list_data_once, values_once}
-use Rattle.mc_lines.proofs.CertLemmas.Forms.{line_form}
+use Rattle.mc_lines.proofs.CertLemmas.Forms.{Plain, alone, line_form, no_rule, rule_once}
 use Rattle.mc_lines.proofs.CertLemmas.PartForms.{atom_form, edge_form, step_form}
 
 -- ---- numbers
@@ -258,7 +262,33 @@ state_once x y e =
     made_alike x y (fields_once x.vars y.vars vars) (list_data_once node_kind_data node_kind_once x.kinds y.kinds kinds) (list_data_once edge_data edge_once x.edges y.edges edges)
     (list_data_once atom_data atom_once x.atoms y.atoms atoms) (whole_once x.whole y.whole whole)
 
+-- ---- folds
+
+ind_alike : (x y : FoldInd) → x.pred ≡ y.pred → x.rule ≡ y.rule → x.names ≡ y.names → x.block ≡ y.block → x.edges ≡ y.edges → x ≡ y
+ind_alike x y p r n b e =
+    let made : PredId → ℕ → List NodeId → Option EdgeId → List EdgeId → FoldInd = λ p r n b e. record { pred = p; rule = r; names = n; block = b; edges = e } in
+    ap (λ z. made z x.rule x.names x.block x.edges) p
+    ∙ ap (λ z. made y.pred z x.names x.block x.edges) r
+    ∙ ap (λ z. made y.pred y.rule z x.block x.edges) n
+    ∙ ap (λ z. made y.pred y.rule y.names z x.edges) b
+    ∙ ap (λ z. made y.pred y.rule y.names y.block z) e
+
+seg_alike : (x y : FoldSeg) → x.pred ≡ y.pred → x.rule ≡ y.rule → x.names ≡ y.names → x.block ≡ y.block → x.edges ≡ y.edges → x.call ≡ y.call → x ≡ y
+seg_alike x y p r n b e c =
+    let made : PredId → ℕ → List NodeId → EdgeId → List EdgeId → ℕ → FoldSeg = λ p r n b e c. record { pred = p; rule = r; names = n; block = b; edges = e; call = c } in
+    ap (λ z. made z x.rule x.names x.block x.edges x.call) p
+    ∙ ap (λ z. made y.pred z x.names x.block x.edges x.call) r
+    ∙ ap (λ z. made y.pred y.rule z x.block x.edges x.call) n
+    ∙ ap (λ z. made y.pred y.rule y.names z x.edges x.call) b
+    ∙ ap (λ z. made y.pred y.rule y.names y.block z x.call) e
+    ∙ ap (λ z. made y.pred y.rule y.names y.block y.edges z) c
+
 -- ---- lines
+
+-- the line of a rule's name
+by_rule : (rule : InstrRule) (y : Line) → Plain (rule_name rule) y → Step rule ≡ y
+by_rule rule y (inl (other, is, e)) = ap (λ r. Step r) (rule_once rule other e) ∙ sym is
+by_rule rule y (inr a) = absurd (no_rule (rule_name rule) rule a.0 refl)
 
 line_once : (x y : Line) → data_of x ≡ data_of y → x ≡ y
 line_once (Header v f) y e =
@@ -280,26 +310,9 @@ line_once (Head p raw) y e =
     let same_raw : raw ≡ h.1 = state_once raw h.1 (let part : state_data raw ≡ state_data h.1 = cc in part) in
     let is = h.2 in
     cc
-line_once Pass y e = sym (line_form (codes "pass") [] y e)
-line_once End y e = sym (line_form (codes "end") [] y e)
-line_once S1 y e = sym (line_form (codes "S1") [] y e)
-line_once S2 y e = sym (line_form (codes "S2") [] y e)
-line_once S3 y e = sym (line_form (codes "S3") [] y e)
-line_once S4 y e = sym (line_form (codes "S4") [] y e)
-line_once S5 y e = sym (line_form (codes "S5") [] y e)
-line_once S6 y e = sym (line_form (codes "S6") [] y e)
-line_once S7 y e = sym (line_form (codes "S7") [] y e)
-line_once S8 y e = sym (line_form (codes "S8") [] y e)
-line_once S9 y e = sym (line_form (codes "S9") [] y e)
-line_once S10 y e = sym (line_form (codes "S10") [] y e)
-line_once S11 y e = sym (line_form (codes "S11") [] y e)
-line_once S12 y e = sym (line_form (codes "S12") [] y e)
-line_once S13 y e = sym (line_form (codes "S13") [] y e)
-line_once S14 y e = sym (line_form (codes "S14") [] y e)
-line_once S15 y e = sym (line_form (codes "S15") [] y e)
-line_once S16 y e = sym (line_form (codes "S16") [] y e)
-line_once S17 y e = sym (line_form (codes "S17") [] y e)
-line_once S18 y e = sym (line_form (codes "S18") [] y e)
+line_once Pass y e = sym (alone (codes "pass") y refl (line_form (codes "pass") [] y e))
+line_once End y e = sym (alone (codes "end") y refl (line_form (codes "end") [] y e))
+line_once (Step rule) y e = by_rule rule y (line_form (rule_name rule) [] y e)
 line_once (L1 i) y e =
     let h = line_form (codes "L1") (edge_id_data i ∷ []) y e in
     let same_i : i ≡ h.0 = edge_id_once i h.0 h.2 in
@@ -310,27 +323,25 @@ line_once (L2 i) y e =
     let same_i : i ≡ h.0 = edge_id_once i h.0 h.2 in
     let is = h.1 in
     cc
-line_once (L3 pred rule names block calls) y e =
-    let h = line_form (codes "L3") (pred_data pred ∷ count_data rule ∷ list_data node_data names ∷ option_data edge_id_data block ∷ list_data edge_id_data calls ∷ []) y e in
-    let all = h.6 in
-    let same_pred : pred ≡ h.0 = pred_once pred h.0 (let part : pred_data pred ≡ pred_data h.0 = cc in part) in
-    let same_rule : rule ≡ h.1 = count_once rule h.1 (let part : count_data rule ≡ count_data h.1 = cc in part) in
-    let same_names : names ≡ h.2 = nodes_once names h.2 (let part : list_data node_data names ≡ list_data node_data h.2 = cc in part) in
-    let same_block : block ≡ h.3 = edge_option_once block h.3 (let part : option_data edge_id_data block ≡ option_data edge_id_data h.3 = cc in part) in
-    let same_calls : calls ≡ h.4 = edge_ids_once calls h.4 (let part : list_data edge_id_data calls ≡ list_data edge_id_data h.4 = cc in part) in
-    let is = h.5 in
-    cc
-line_once (L4 pred rule names block calls call) y e =
-    let h = line_form (codes "L4") (pred_data pred ∷ count_data rule ∷ list_data node_data names ∷ edge_id_data block ∷ list_data edge_id_data calls ∷ count_data call ∷ []) y e in
-    let all = h.7 in
-    let same_pred : pred ≡ h.0 = pred_once pred h.0 (let part : pred_data pred ≡ pred_data h.0 = cc in part) in
-    let same_rule : rule ≡ h.1 = count_once rule h.1 (let part : count_data rule ≡ count_data h.1 = cc in part) in
-    let same_names : names ≡ h.2 = nodes_once names h.2 (let part : list_data node_data names ≡ list_data node_data h.2 = cc in part) in
-    let same_block : block ≡ h.3 = edge_id_once block h.3 (let part : edge_id_data block ≡ edge_id_data h.3 = cc in part) in
-    let same_calls : calls ≡ h.4 = edge_ids_once calls h.4 (let part : list_data edge_id_data calls ≡ list_data edge_id_data h.4 = cc in part) in
-    let same_call : call ≡ h.5 = count_once call h.5 (let part : count_data call ≡ count_data h.5 = cc in part) in
-    let is = h.6 in
-    cc
+line_once (L3 fold) y e =
+    let h = line_form (codes "L3") (ind_entries fold) y e in
+    let all = h.2 in
+    let same_pred : fold.pred ≡ h.0.pred = pred_once fold.pred h.0.pred (let part : pred_data fold.pred ≡ pred_data h.0.pred = cc in part) in
+    let same_rule : fold.rule ≡ h.0.rule = count_once fold.rule h.0.rule (let part : count_data fold.rule ≡ count_data h.0.rule = cc in part) in
+    let same_names : fold.names ≡ h.0.names = nodes_once fold.names h.0.names (let part : list_data node_data fold.names ≡ list_data node_data h.0.names = cc in part) in
+    let same_block : fold.block ≡ h.0.block = edge_option_once fold.block h.0.block (let part : option_data edge_id_data fold.block ≡ option_data edge_id_data h.0.block = cc in part) in
+    let same_edges : fold.edges ≡ h.0.edges = edge_ids_once fold.edges h.0.edges (let part : list_data edge_id_data fold.edges ≡ list_data edge_id_data h.0.edges = cc in part) in
+    ap (λ f. L3 f) (ind_alike fold h.0 same_pred same_rule same_names same_block same_edges) ∙ sym h.1
+line_once (L4 fold) y e =
+    let h = line_form (codes "L4") (seg_entries fold) y e in
+    let all = h.2 in
+    let same_pred : fold.pred ≡ h.0.pred = pred_once fold.pred h.0.pred (let part : pred_data fold.pred ≡ pred_data h.0.pred = cc in part) in
+    let same_rule : fold.rule ≡ h.0.rule = count_once fold.rule h.0.rule (let part : count_data fold.rule ≡ count_data h.0.rule = cc in part) in
+    let same_names : fold.names ≡ h.0.names = nodes_once fold.names h.0.names (let part : list_data node_data fold.names ≡ list_data node_data h.0.names = cc in part) in
+    let same_block : fold.block ≡ h.0.block = edge_id_once fold.block h.0.block (let part : edge_id_data fold.block ≡ edge_id_data h.0.block = cc in part) in
+    let same_edges : fold.edges ≡ h.0.edges = edge_ids_once fold.edges h.0.edges (let part : list_data edge_id_data fold.edges ≡ list_data edge_id_data h.0.edges = cc in part) in
+    let same_call : fold.call ≡ h.0.call = count_once fold.call h.0.call (let part : count_data fold.call ≡ count_data h.0.call = cc in part) in
+    ap (λ f. L4 f) (seg_alike fold h.0 same_pred same_rule same_names same_block same_edges same_call) ∙ sym h.1
 line_once (L5 i j) y e =
     let h = line_form (codes "L5") (edge_id_data i ∷ edge_id_data j ∷ []) y e in
     let all = h.3 in
@@ -380,7 +391,7 @@ line_once (L11 n) y e =
     let same_n : n ≡ h.0 = node_once n h.0 h.2 in
     let is = h.1 in
     cc
-line_once L12 y e = sym (line_form (codes "L12") [] y e)
+line_once L12 y e = sym (alone (codes "L12") y refl (line_form (codes "L12") [] y e))
 line_once (L13 j images edges) y e =
     let h = line_form (codes "L13") (count_data j ∷ list_data node_data images ∷ list_data edge_id_data edges ∷ []) y e in
     let all = h.4 in
@@ -399,7 +410,7 @@ line_once (L15 i) y e =
     let same_i : i ≡ h.0 = edge_id_once i h.0 h.2 in
     let is = h.1 in
     cc
-line_once C1 y e = sym (line_form (codes "C1") [] y e)
+line_once C1 y e = sym (alone (codes "C1") y refl (line_form (codes "C1") [] y e))
 line_once (C2 tries) y e =
     let h = line_form (codes "C2") (list_data (list_data step_data) tries ∷ []) y e in
     let same_tries : tries ≡ h.0 = tries_once tries h.0 h.2 in

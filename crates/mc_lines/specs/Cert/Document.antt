@@ -7,12 +7,10 @@ use Rattle.mc_state.specs.declared.line.Form.{Form}
 use Rattle.mc_lines.specs.declared.cert.fault.LineFault.{LineFault}
 use Rattle.mc_lines.specs.declared.cert.fault.LineFault.TheVariants as faults
 use Rattle.mc_lines.specs.declared.cert.line.Line.{Line}
-use Rattle.mc_lines.specs.declared.cert.line.Line.TheVariants.{Header, Cut, Head, Pass, End, S1, S2, S3, S4, S5, S6, S7}
-use Rattle.mc_lines.specs.declared.cert.line.Line.TheVariants.{S8, S9, S10, S11, S12, S13, S14, S15, S16, S17, S18, L1}
-use Rattle.mc_lines.specs.declared.cert.line.Line.TheVariants.{L2, L3, L4, L5, L6, L7, L8, L9, L10, L11, L12, L13, L14}
-use Rattle.mc_lines.specs.declared.cert.line.Line.TheVariants.{L15, C1, C2, C3}
-use Rattle.mc_lines.specs.Cert.Entries.{IsSigned, StateFits, count_data, edge_id_data, form_data, kind_data, list_data}
-use Rattle.mc_lines.specs.Cert.Entries.{named_data, node_data, option_data, point_data, pred_data, signed_data}
+use Rattle.mc_lines.specs.declared.cert.line.Line.TheVariants.{Header, Cut, Head, Pass, End, Step, L1, L2, L3, L4, L5, L6, L7, L8, L9, L10}
+use Rattle.mc_lines.specs.declared.cert.line.Line.TheVariants.{L11, L12, L13, L14, L15, C1, C2, C3}
+use Rattle.mc_lines.specs.Cert.Entries.{IsSigned, StateFits, count_data, edge_id_data, form_data, ind_entries, kind_data, list_data}
+use Rattle.mc_lines.specs.Cert.Entries.{named_data, node_data, point_data, pred_data, rule_name, seg_entries, signed_data}
 use Rattle.mc_lines.specs.Cert.Entries.{state_data, step_data, version_data}
 use Rattle.mc_lines.specs.Cert.Reads.{Reads}
 
@@ -23,32 +21,11 @@ data_of (Cut p) = named_data (codes "cut") (point_data p ∷ [])
 data_of (Head p raw) = named_data (codes "head") (point_data p ∷ state_data raw ∷ [])
 data_of Pass = named_data (codes "pass") []
 data_of End = named_data (codes "end") []
-data_of S1 = named_data (codes "S1") []
-data_of S2 = named_data (codes "S2") []
-data_of S3 = named_data (codes "S3") []
-data_of S4 = named_data (codes "S4") []
-data_of S5 = named_data (codes "S5") []
-data_of S6 = named_data (codes "S6") []
-data_of S7 = named_data (codes "S7") []
-data_of S8 = named_data (codes "S8") []
-data_of S9 = named_data (codes "S9") []
-data_of S10 = named_data (codes "S10") []
-data_of S11 = named_data (codes "S11") []
-data_of S12 = named_data (codes "S12") []
-data_of S13 = named_data (codes "S13") []
-data_of S14 = named_data (codes "S14") []
-data_of S15 = named_data (codes "S15") []
-data_of S16 = named_data (codes "S16") []
-data_of S17 = named_data (codes "S17") []
-data_of S18 = named_data (codes "S18") []
+data_of (Step rule) = named_data (rule_name rule) []
 data_of (L1 e) = named_data (codes "L1") (edge_id_data e ∷ [])
 data_of (L2 e) = named_data (codes "L2") (edge_id_data e ∷ [])
-data_of (L3 pred rule names block calls) =
-    named_data (codes "L3") (pred_data pred ∷ count_data rule ∷ list_data node_data names
-    ∷ option_data edge_id_data block ∷ list_data edge_id_data calls ∷ [])
-data_of (L4 pred rule names block calls call) =
-    named_data (codes "L4") (pred_data pred ∷ count_data rule ∷ list_data node_data names ∷ edge_id_data block
-    ∷ list_data edge_id_data calls ∷ count_data call ∷ [])
+data_of (L3 fold) = named_data (codes "L3") (ind_entries fold)
+data_of (L4 fold) = named_data (codes "L4") (seg_entries fold)
 data_of (L5 i j) = named_data (codes "L5") (edge_id_data i ∷ edge_id_data j ∷ [])
 data_of (L6 i j) = named_data (codes "L6") (edge_id_data i ∷ edge_id_data j ∷ [])
 data_of (L7 pred a args b ends) =
@@ -72,28 +49,11 @@ LineFits (Cut p) = Unit {0}
 LineFits (Head p raw) = StateFits raw
 LineFits Pass = Unit {0}
 LineFits End = Unit {0}
-LineFits S1 = Unit {0}
-LineFits S2 = Unit {0}
-LineFits S3 = Unit {0}
-LineFits S4 = Unit {0}
-LineFits S5 = Unit {0}
-LineFits S6 = Unit {0}
-LineFits S7 = Unit {0}
-LineFits S8 = Unit {0}
-LineFits S9 = Unit {0}
-LineFits S10 = Unit {0}
-LineFits S11 = Unit {0}
-LineFits S12 = Unit {0}
-LineFits S13 = Unit {0}
-LineFits S14 = Unit {0}
-LineFits S15 = Unit {0}
-LineFits S16 = Unit {0}
-LineFits S17 = Unit {0}
-LineFits S18 = Unit {0}
+LineFits (Step rule) = Unit {0}
 LineFits (L1 e) = Unit {0}
 LineFits (L2 e) = Unit {0}
-LineFits (L3 pred rule names block calls) = Unit {0}
-LineFits (L4 pred rule names block calls call) = Unit {0}
+LineFits (L3 fold) = Unit {0}
+LineFits (L4 fold) = Unit {0}
 LineFits (L5 i j) = Unit {0}
 LineFits (L6 i j) = Unit {0}
 LineFits (L7 pred a args b ends) = Unit {0}

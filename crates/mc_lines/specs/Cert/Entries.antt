@@ -15,8 +15,12 @@ use Rattle.mc_base.specs.declared.plain.Kind.{Kind}
 use Rattle.mc_base.specs.declared.plain.Kind.TheVariants as kind
 use Rattle.mc_state.specs.declared.graph.edge.Edge.{Edge}
 use Rattle.mc_state.specs.declared.graph.edge.Edge.TheVariants.{Block, Ind, Seg}
+use Rattle.mc_state.specs.declared.line.FoldInd.{FoldInd}
+use Rattle.mc_state.specs.declared.line.FoldSeg.{FoldSeg}
 use Rattle.mc_state.specs.declared.line.Form.{Form}
 use Rattle.mc_state.specs.declared.line.Form.TheVariants.{Certificate, Chain}
+use Rattle.mc_state.specs.declared.line.InstrRule.{InstrRule}
+use Rattle.mc_state.specs.declared.line.InstrRule.TheVariants.{S1, S2, S3, S4, S5, S6, S7, S8, S9, S10, S11, S12, S13, S14, S15, S16, S17, S18}
 use Rattle.mc_state.specs.declared.line.JoinStep.{JoinStep}
 use Rattle.mc_state.specs.declared.line.JoinStep.TheVariants.{J1, J2, J3, J4, J5, J6, J7}
 use Rattle.mc_state.specs.declared.line.Side.{Side}
@@ -94,8 +98,30 @@ abbrev pub side_data : Side → Data
 side_data Left = count_data 0
 side_data Right = count_data 1
 
+-- the name of a rule of instructions
+abbrev pub rule_name : InstrRule → List ℕ
+rule_name S1 = codes "S1"
+rule_name S2 = codes "S2"
+rule_name S3 = codes "S3"
+rule_name S4 = codes "S4"
+rule_name S5 = codes "S5"
+rule_name S6 = codes "S6"
+rule_name S7 = codes "S7"
+rule_name S8 = codes "S8"
+rule_name S9 = codes "S9"
+rule_name S10 = codes "S10"
+rule_name S11 = codes "S11"
+rule_name S12 = codes "S12"
+rule_name S13 = codes "S13"
+rule_name S14 = codes "S14"
+rule_name S15 = codes "S15"
+rule_name S16 = codes "S16"
+rule_name S17 = codes "S17"
+rule_name S18 = codes "S18"
+
 -- ---- steps of joins
 
+-- a step is an array of its name and what it has
 abbrev pub step_data : JoinStep → Data
 step_data J1 = named_data (codes "J1") []
 step_data J2 = named_data (codes "J2") []
@@ -105,8 +131,21 @@ step_data (J5 pred) = named_data (codes "J5") (pred_data pred ∷ [])
 step_data (J6 pred side pair) = named_data (codes "J6") (pred_data pred ∷ side_data side ∷ count_data pair ∷ [])
 step_data (J7 pred side pair) = named_data (codes "J7") (pred_data pred ∷ side_data side ∷ count_data pair ∷ [])
 
+-- ---- folds
+
+-- the entries of L3
+abbrev pub ind_entries : FoldInd → List Data
+ind_entries fold = pred_data fold.pred ∷ count_data fold.rule ∷ list_data node_data fold.names
+    ∷ option_data edge_id_data fold.block ∷ list_data edge_id_data fold.edges ∷ []
+
+-- the entries of L4
+abbrev pub seg_entries : FoldSeg → List Data
+seg_entries fold = pred_data fold.pred ∷ count_data fold.rule ∷ list_data node_data fold.names ∷ edge_id_data fold.block
+    ∷ list_data edge_id_data fold.edges ∷ count_data fold.call ∷ []
+
 -- ---- states
 
+-- an edge is an array of its letter and its parts
 abbrev pub edge_data : Edge → Data
 edge_data (Block at shape fields) = named_data (codes "B")
     (node_data at ∷ struct_data shape ∷ list_data (option_data node_data) fields ∷ [])
@@ -114,6 +153,7 @@ edge_data (Ind at pred args) = named_data (codes "I") (node_data at ∷ pred_dat
 edge_data (Seg at args pred «end» ends) =
     named_data (codes "S") (node_data at ∷ list_data node_data args ∷ pred_data pred ∷ node_data end ∷ list_data node_data ends ∷ [])
 
+-- an atom is one too
 abbrev pub atom_data : Atom → Data
 atom_data (Eq a b c) = named_data (codes "=") (node_data a ∷ node_data b ∷ signed_data c ∷ [])
 atom_data (Ne a b c) = named_data (codes "!") (node_data a ∷ node_data b ∷ signed_data c ∷ [])

@@ -384,7 +384,7 @@ pub fn three<A: Entry + Drop, B: Entry + Drop, C: Entry + Drop>(
     Ok((a, b, c))
 }
 
-/// Puts an entry behind those before it.
+/// Puts an entry after those before it.
 pub fn put<T: Entry>(alloc: Global, values: &mut Vec<Value>, entry: &T) -> Result<(), AllocError>
     ensures { OnOk result ((map view values.new.items ≡ map view values.old.items ++ T.spelled entry.now ∷ []) × T.fits entry.now) }
 {

@@ -1,8 +1,8 @@
 // What a line of a document says.
 use mc_base::{Args, EdgeId, Items, Kind, NodeId, PointId, PredId};
-use mc_state::{Form, JoinStep, RawState, Version};
+use mc_state::{FoldInd, FoldSeg, Form, InstrRule, JoinStep, RawState, Version};
 
-/// A line of a document. The entries of a form are those of its array behind the name.
+/// A line of a document. The entries of a form are those of its array after the name.
 #[derive(Drop)]
 pub enum Line {
     Header(Version, Form),
@@ -13,50 +13,16 @@ pub enum Line {
     /// A pass of a chain begins.
     Pass,
     End,
-    /// Skip.
-    S1,
-    /// Copy.
-    S2,
-    /// Undef.
-    S3,
-    /// Input.
-    S4,
-    /// Add.
-    S5,
-    /// Sub.
-    S6,
-    /// Mul.
-    S7,
-    /// Load.
-    S8,
-    /// Store.
-    S9,
-    /// Malloc.
-    S10,
-    /// Free of null.
-    S11,
-    /// Free of a block.
-    S12,
-    /// A test for equality.
-    S13,
-    /// A test for order.
-    S14,
-    /// An assumed shape.
-    S15,
-    /// An asserted shape.
-    S16,
-    /// End.
-    S17,
-    /// An empty heap that is asserted.
-    S18,
+    /// A rule of instructions.
+    Step(InstrRule),
     /// Unfolds an Ind.
     L1(EdgeId),
     /// Unfolds a Seg.
     L2(EdgeId),
-    /// Folds a rule's block and calls into an Ind: the predicate, the rule, the nodes of its names, its block and its calls.
-    L3(PredId, u64, Items<NodeId>, Option<EdgeId>, Items<EdgeId>),
-    /// Folds a rule's block and calls without one into a Seg to that call, whose number comes last.
-    L4(PredId, u64, Items<NodeId>, EdgeId, Items<EdgeId>, u64),
+    /// Folds a rule's block and calls into an Ind.
+    L3(FoldInd),
+    /// Folds a rule's block and calls without one into a Seg to that call.
+    L4(FoldSeg),
     /// Folds a Seg and an Ind at its end.
     L5(EdgeId, EdgeId),
     /// Folds a Seg and another at its end.

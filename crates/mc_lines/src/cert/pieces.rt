@@ -27,7 +27,7 @@ fn after(bytes: &[u8], n: usize) -> &[u8]
     }
 }
 
-/// The first line of a text, and what is behind its line feed; None where there is nothing.
+/// The first line of a text, and what is after its line feed; None where there is nothing.
 pub fn first_line(bytes: &[u8]) -> Option<(&[u8], &[u8])>
     ensures lines { MatchOption result (lines_of bytes.now ≡ []) (λ r. lines_of bytes.now ≡ r.0.now ∷ lines_of r.1.now) }
     ensures shorter { MatchOption result (bytes.now ≡ []) (λ r. length r.1.now < length bytes.now) }

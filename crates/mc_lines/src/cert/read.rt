@@ -8,8 +8,9 @@ ghost use Rattle.mc_lines.specs.Cert.Reads.{Reads};
 
 use crate::cert::entry::{Entry, three, two};
 use crate::cert::parts::named;
+use crate::cert::rules::rule_named;
 use crate::cert::{Line, LineFault};
-use mc_state::Version;
+use mc_state::{FoldInd, FoldSeg, Version};
 use serde_json::Value;
 use std::alloc::Global;
 
@@ -21,27 +22,12 @@ fn plain(name: &str) -> Option<Line>
     match name {
         "pass" => Some(Line::Pass),
         "end" => Some(Line::End),
-        "S1" => Some(Line::S1),
-        "S2" => Some(Line::S2),
-        "S3" => Some(Line::S3),
-        "S4" => Some(Line::S4),
-        "S5" => Some(Line::S5),
-        "S6" => Some(Line::S6),
-        "S7" => Some(Line::S7),
-        "S8" => Some(Line::S8),
-        "S9" => Some(Line::S9),
-        "S10" => Some(Line::S10),
-        "S11" => Some(Line::S11),
-        "S12" => Some(Line::S12),
-        "S13" => Some(Line::S13),
-        "S14" => Some(Line::S14),
-        "S15" => Some(Line::S15),
-        "S16" => Some(Line::S16),
-        "S17" => Some(Line::S17),
-        "S18" => Some(Line::S18),
         "L12" => Some(Line::L12),
         "C1" => Some(Line::C1),
-        _ => None,
+        _ => match rule_named(name) {
+            Some(rule) => Some(Line::Step(rule)),
+            None => None,
+        },
     }
 }
 
@@ -155,8 +141,14 @@ fn of_five(
     match name {
         "L3" => {
             let (pred, rule) = two(alloc, a, b)?;
-            let (names, block, calls) = three(alloc, c, d, e)?;
-            Ok(Line::L3(pred, rule, names, block, calls))
+            let (names, block, edges) = three(alloc, c, d, e)?;
+            Ok(Line::L3(FoldInd {
+                pred,
+                rule,
+                names,
+                block,
+                edges,
+            }))
         }
         "L7" => {
             let (pred, at) = two(alloc, a, b)?;
@@ -185,8 +177,15 @@ fn of_six(
         return Err(LineFault::Form);
     }
     let (pred, rule, names) = three(alloc, a, b, c)?;
-    let (block, calls, call) = three(alloc, d, e, f)?;
-    Ok(Line::L4(pred, rule, names, block, calls, call))
+    let (block, edges, call) = three(alloc, d, e, f)?;
+    Ok(Line::L4(FoldSeg {
+        pred,
+        rule,
+        names,
+        block,
+        edges,
+        call,
+    }))
 }
 
 // The line of a name and entries.

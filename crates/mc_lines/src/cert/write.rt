@@ -9,8 +9,9 @@ ghost use Rattle.mc_lines.specs.Cert.Entries.{count_data, named_data, version_da
 use crate::cert::Line;
 use crate::cert::entry::{begin, put};
 use crate::cert::parts::{array_of_one, array_of_three, array_of_two};
-use mc_base::{Args, EdgeId, Items, NoMemory, NodeId, PredId};
-use mc_state::Version;
+use crate::cert::rules::rule_name;
+use mc_base::{Args, NoMemory, NodeId, PredId};
+use mc_state::{FoldInd, FoldSeg, Version};
 use serde_json::Value;
 use std::alloc::Global;
 
@@ -29,43 +30,28 @@ fn number_of(version: Version) -> u64
     }
 }
 
-fn fold_ind(
-    alloc: Global,
-    pred: &PredId,
-    rule: &u64,
-    names: &Items<NodeId>,
-    block: &Option<EdgeId>,
-    calls: &Items<EdgeId>,
-) -> Result<Value, NoMemory>
-    ensures { IfOk result (λ v. view v ≡ data_of (Form.L3 pred.now rule.now names.now block.now calls.now)) }
+fn fold_ind(alloc: Global, fold: &FoldInd) -> Result<Value, NoMemory>
+    ensures { IfOk result (λ v. view v ≡ data_of (Form.L3 fold.now)) }
 {
     let mut values = begin(alloc, "L3")?;
-    put(alloc, &mut values, pred)?;
-    put(alloc, &mut values, rule)?;
-    put(alloc, &mut values, names)?;
-    put(alloc, &mut values, block)?;
-    put(alloc, &mut values, calls)?;
+    put(alloc, &mut values, &fold.pred)?;
+    put(alloc, &mut values, &fold.rule)?;
+    put(alloc, &mut values, &fold.names)?;
+    put(alloc, &mut values, &fold.block)?;
+    put(alloc, &mut values, &fold.edges)?;
     Ok(Value::Array(values))
 }
 
-fn fold_segment(
-    alloc: Global,
-    pred: &PredId,
-    rule: &u64,
-    names: &Items<NodeId>,
-    block: &EdgeId,
-    calls: &Items<EdgeId>,
-    call: &u64,
-) -> Result<Value, NoMemory>
-    ensures { IfOk result (λ v. view v ≡ data_of (Form.L4 pred.now rule.now names.now block.now calls.now call.now)) }
+fn fold_segment(alloc: Global, fold: &FoldSeg) -> Result<Value, NoMemory>
+    ensures { IfOk result (λ v. view v ≡ data_of (Form.L4 fold.now)) }
 {
     let mut values = begin(alloc, "L4")?;
-    put(alloc, &mut values, pred)?;
-    put(alloc, &mut values, rule)?;
-    put(alloc, &mut values, names)?;
-    put(alloc, &mut values, block)?;
-    put(alloc, &mut values, calls)?;
-    put(alloc, &mut values, call)?;
+    put(alloc, &mut values, &fold.pred)?;
+    put(alloc, &mut values, &fold.rule)?;
+    put(alloc, &mut values, &fold.names)?;
+    put(alloc, &mut values, &fold.block)?;
+    put(alloc, &mut values, &fold.edges)?;
+    put(alloc, &mut values, &fold.call)?;
     Ok(Value::Array(values))
 }
 
@@ -98,32 +84,11 @@ fn value_of(alloc: Global, line: &Line) -> Result<Value, NoMemory>
         Line::Head(point, state) => array_of_two(alloc, "head", point, state),
         Line::Pass => alone(alloc, "pass"),
         Line::End => alone(alloc, "end"),
-        Line::S1 => alone(alloc, "S1"),
-        Line::S2 => alone(alloc, "S2"),
-        Line::S3 => alone(alloc, "S3"),
-        Line::S4 => alone(alloc, "S4"),
-        Line::S5 => alone(alloc, "S5"),
-        Line::S6 => alone(alloc, "S6"),
-        Line::S7 => alone(alloc, "S7"),
-        Line::S8 => alone(alloc, "S8"),
-        Line::S9 => alone(alloc, "S9"),
-        Line::S10 => alone(alloc, "S10"),
-        Line::S11 => alone(alloc, "S11"),
-        Line::S12 => alone(alloc, "S12"),
-        Line::S13 => alone(alloc, "S13"),
-        Line::S14 => alone(alloc, "S14"),
-        Line::S15 => alone(alloc, "S15"),
-        Line::S16 => alone(alloc, "S16"),
-        Line::S17 => alone(alloc, "S17"),
-        Line::S18 => alone(alloc, "S18"),
+        Line::Step(rule) => alone(alloc, rule_name(*rule)),
         Line::L1(edge) => array_of_one(alloc, "L1", edge),
         Line::L2(edge) => array_of_one(alloc, "L2", edge),
-        Line::L3(pred, rule, names, block, calls) => {
-            fold_ind(alloc, pred, rule, names, block, calls)
-        }
-        Line::L4(pred, rule, names, block, calls, call) => {
-            fold_segment(alloc, pred, rule, names, block, calls, call)
-        }
+        Line::L3(fold) => fold_ind(alloc, fold),
+        Line::L4(fold) => fold_segment(alloc, fold),
         Line::L5(first, second) => array_of_two(alloc, "L5", first, second),
         Line::L6(first, second) => array_of_two(alloc, "L6", first, second),
         Line::L7(pred, at, args, end, ends) => empty_segment(alloc, pred, at, args, end, ends),

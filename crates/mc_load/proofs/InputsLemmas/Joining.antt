@@ -1,4 +1,4 @@
--- Inputs, from the program that is read first and what comes behind it.
+-- Inputs, from the program that is read first and what comes after it.
 use Rattle.std.proofs.Common.{◌∙◌, List, ℕ, subst, sym}
 use Rattle.std.specs.Prelude.{IfOk, MatchResult, Result, Ok, Err}
 use Rattle.mc_c_syntax.specs.Ast.Views.{unit_of}

@@ -12,19 +12,19 @@ use Rattle.mc_load.specs.declared.inputs.refusal.Refusal.{Refusal}
 use Rattle.mc_load.specs.declared.inputs.refusal.Refusal.TheVariants.{Program, Definitions, Misfit}
 use Rattle.mc_load.specs.Inputs.Texts.{AreDefinitions, HasMisfit, IsProgramHere, IsUndefined, IsUnread}
 
--- what files hold, by name, where it is told
+-- what files hold, by name, where it is known
 abbrev pub Holds : Type 0
 Holds = List ℕ → Option (List ℕ)
 
--- the file is this program, where it is told
+-- the file is this program, where it is known
 abbrev pub IsProgramIn : Holds → Sources → UnitTree → Type 0
 IsProgramIn holds s unit = WhereTold (holds s.program.now) (λ text. IsProgramHere s.start.now text unit)
 
--- the file is these definitions over the program's structs, where it is told
+-- the file is these definitions over the program's structs, where it is known
 abbrev pub AreDefinitionsIn : Holds → Sources → UnitTree → List Def → Type 0
 AreDefinitionsIn holds s unit defs = WhereTold (holds s.definitions.now) (AreDefinitions unit defs)
 
--- the program is bound to definitions that the file is, where it is told, and its shape commands fit them
+-- the program is bound to definitions that the file is, where it is known, and its shape commands fit them
 abbrev pub IsBoundIn : Holds → Sources → Typed → BoundProgram → Type 0
 IsBoundIn holds s typed bound =
     (bound.typed ≡ typed) × AreDefinitionsIn holds s (unit_of typed.unit) bound.defs × IsBound (unit_of typed.unit) bound.defs
@@ -35,7 +35,7 @@ pub record AreInputs (holds : Holds) (s : Sources) (unit : UnitTree) (defs : Lis
   pub definitions : AreDefinitionsIn holds s unit defs
   pub fit : IsBound unit defs
 
--- why the files are refused behind this program
+-- why the files are refused after this program
 abbrev pub IsRefusedWith : Holds → Sources → UnitTree → Refusal → Type 0
 IsRefusedWith holds s unit (Program cause) = ⊥
 IsRefusedWith holds s unit (Definitions cause) = WhereTold (holds s.definitions.now) (IsUndefined unit cause)

@@ -1,4 +1,4 @@
--- What faults are told as.
+-- What faults are reported as.
 use Rattle.std.specs.Prelude.{Option, Some, None}
 use Rattle.mc_c_syntax.specs.declared.lex.fault.LexFault.{LexFault}
 use Rattle.mc_c_syntax.specs.declared.lex.fault.LexFault.TheVariants as Lexical
@@ -13,20 +13,20 @@ use Rattle.mc_load.specs.declared.read.cause.Refusal.{Refusal}
 use Rattle.mc_load.specs.declared.read.cause.ReadFault.{ReadFault}
 use Rattle.mc_load.specs.declared.read.cause.ReadFault.TheVariants.{Refused, NoMemory}
 
--- what a fault of bytes is told as; out of memory is none
+-- what a fault of bytes is known as; out of memory is none
 abbrev pub lexical_refusal : LexFault → Option Refusal
 lexical_refusal (Lexical.BadByte place) = Some (record { cause = BadByte; place = place })
 lexical_refusal (Lexical.OpenComment place) = Some (record { cause = OpenComment; place = place })
 lexical_refusal (Lexical.BadNumber place) = Some (record { cause = BadNumber; place = place })
 lexical_refusal Lexical.NoMemory = None
 
--- what a fault of tokens is told as
+-- what a fault of tokens is known as
 abbrev pub grammatical_refusal : ParseFault → Option Refusal
 grammatical_refusal (Grammatical.Unexpected place) = Some (record { cause = Unexpected; place = place })
 grammatical_refusal (Grammatical.LeftOut text place) = Some (record { cause = LeftOut text; place = place })
 grammatical_refusal Grammatical.NoMemory = None
 
--- what a fault of types, or of a shape command, is told as
+-- what a fault of types, or of a shape command, is known as
 abbrev pub typing_cause : FaultName → Cause
 typing_cause Typing.Unknown = Unknown
 typing_cause Typing.Mismatch = Mismatch

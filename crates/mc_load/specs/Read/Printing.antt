@@ -5,7 +5,7 @@ use Rattle.mc_load.specs.declared.read.cause.Cause.{Cause}
 use Rattle.mc_load.specs.declared.read.cause.Cause.TheVariants.{BadByte, OpenComment, BadNumber, Unexpected, LeftOut, Unknown, Mismatch, Twice, Recursion, NoEntry, BadSizeof, Arity}
 use Rattle.mc_load.specs.declared.read.cause.Refusal.{Refusal}
 
--- a cause's name, and behind it the token that is left out
+-- a cause's name, and after it the token that is left out
 abbrev pub cause_text : Cause → List ℕ
 cause_text BadByte = codes "BadByte"
 cause_text OpenComment = codes "OpenComment"

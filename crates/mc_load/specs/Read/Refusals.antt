@@ -14,7 +14,7 @@ use Rattle.mc_load.specs.declared.read.cause.ReadFault.TheVariants.{Refused, NoM
 use Rattle.mc_load.specs.Read.Causes.{lexical_refusal, grammatical_refusal, typing_refusal}
 use Rattle.mc_load.specs.Read.Programs.{IsReadAs}
 
--- the text is refused for this entry: it has no tokens, its tokens spell no tree, or its tree is not well typed; the first fault is told
+-- the text is refused for this entry: it has no tokens, its tokens spell no tree, or its tree is not well typed; the first fault is known
 pub data IsRefused (text entry : List ℕ) (refusal : Refusal) : Type 0 where
   by_bytes : (fault : LexFault) → Lexes text (Err fault) → lexical_refusal fault ≡ Some refusal → IsRefused text entry refusal
   by_tokens : (tokens : List Token) (fault : ParseFault) → Lexes text (Ok tokens) → IsFaultOf tokens fault

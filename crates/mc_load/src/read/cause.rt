@@ -66,7 +66,7 @@ fn refused(cause: Cause, place: Place) -> ReadFault
     ReadFault::Refused(Refusal { cause, place })
 }
 
-/// What a fault of bytes is told as.
+/// What a fault of bytes is known as.
 pub fn of_lexical(fault: LexFault) -> ReadFault
     ensures { result ≡ fault_of (lexical_refusal fault) }
 {
@@ -78,7 +78,7 @@ pub fn of_lexical(fault: LexFault) -> ReadFault
     }
 }
 
-/// What a fault of tokens is told as.
+/// What a fault of tokens is known as.
 pub fn of_grammatical(fault: ParseFault) -> ReadFault
     ensures { result ≡ fault_of (grammatical_refusal fault) }
 {
@@ -104,7 +104,7 @@ fn of_name(name: FaultName) -> Cause
 }
 
 impl Refusal {
-    /// What a fault of types, or of a shape command, is told as.
+    /// What a fault of types, or of a shape command, is known as.
     pub fn of_typing(fault: Fault) -> Refusal
         ensures { result ≡ typing_refusal fault }
     {

@@ -29,8 +29,7 @@ fn print_left_out(out: &mut Vec<u8>, token: &[u8]) -> Result<(), AllocError>
     ensures { OnOk result (out.new.items ≡ out.old.items ++ codes "LeftOut " ++ token.now) }
 {
     out.extend_from_slice(b"LeftOut ")?;
-    out.extend_from_slice(token)?;
-    Ok(())
+    out.extend_from_slice(token)
 }
 
 impl Refusal {
@@ -40,7 +39,6 @@ impl Refusal {
     {
         print_cause(out, &self.cause)?;
         out.extend_from_slice(b" at ")?;
-        print_place(alloc, out, self.place)?;
-        Ok(())
+        print_place(alloc, out, self.place)
     }
 }

@@ -73,7 +73,7 @@ number_of vs name e =
     let r = first_in vs name e in
     ap (λ b. kind_at vs (unwrap_or (cond b (Some (position_or_len (λ v. is_same v.name name) vs)) None) 0)) (lt-ltb (position_or_len (λ v. is_same v.name name) vs) (length vs) r.0) ∙ r.1
 
--- a field behind a pointer
+-- a field after a pointer
 pub record IsBehind (t : Tables) (h : Here) (type : VariableType) (field : Name) : Type 0 where
   pub pointer : kind_of type ≡ Ptr
   pub proper : IsProper (length t.structs) (unwrap_or (field_in t type field.text) Anything)
@@ -96,7 +96,7 @@ behind t h (Pointer s) field shaped proper e = let r = at (slice_get t.structs s
               ∙ number_of (fields_of t shape) field.text some,
         )
 
--- ---- fields one behind the other
+-- ---- fields one after the other
 pub record IsLed (t : Tables) (h : Here) (type : VariableType) (fields : List Name) : Type 0 where
   pub proper : IsProper (length t.structs) (behind_fields t type fields)
   pub leads : LeadsTo h.structs (kind_of type) (resolved_fields t type fields) (kind_of (behind_fields t type fields))

@@ -20,7 +20,7 @@ use Rattle.mc_c_types.specs.declared.types.BaseType.TheVariants.{Typed, Struct, 
 use Rattle.mc_lower_laws.proofs.ScopedLemmas.Faultless.{none_left, none_right}
 use Rattle.mc_lower_laws.proofs.KindsLemmas.Types.{Each, IsProper, false_true, kept}
 
--- what a base means, with so many structs; behind a `*` a struct is defined
+-- what a base means, with so many structs; after a `*` a struct is defined
 abbrev pub IsMeant : ℕ → Option Place → BaseType → Type 0
 IsMeant count star (Typed type) = IsProper count type
 IsMeant count star (Struct s) = s.0 < count
@@ -55,7 +55,7 @@ struct_defined : (o : Option StructId) → is_some o ≡ true → is_undefined (
 struct_defined None e = absurd (false_true e)
 struct_defined (Some s) e = refl
 
--- a struct that is known is meant behind a `*` too
+-- a struct that is known is meant after a `*` too
 pub starred : (count : ℕ) (p : Place) (b : BaseType) → IsMeant count None b → is_undefined b ≡ false → IsMeant count (Some p) b
 starred count p (Typed type) meant e = meant
 starred count p (Struct s) meant e = meant

@@ -9,20 +9,20 @@ use Rattle.mc_c_types.specs.Tables.{Tables, Variable, parameters_of, listed_para
 use Rattle.mc_c_grammar.specs.Places.Places.{declaration_places, start_places, statement_places, statements_places, parameters_places, body_places, function_places}
 use Rattle.mc_semantics.specs.Resolved.Resolving.{declaration_variables, start_variables, statement_variables, statements_variables, body_statements, function_variables}
 
-all_items : (t : Tables) (d : tree.DeclarationTree) (items : List tree.InitialTree)
+pub all_items : (t : Tables) (d : tree.DeclarationTree) (items : List tree.InitialTree)
     → map (λ v. v.place) (map (λ item. declared_variable t d.base item.declarator) items) ≡ map (λ item. item.declarator.name.place) items
 all_items t d [] = refl
 all_items t d (item ∷ items) = ap (λ places. item.declarator.name.place ∷ places) (all_items t d items)
 
-item_places_are : (t : Tables) (d : tree.DeclarationTree) → map (λ v. v.place) (declaration_variables t d) ≡ declaration_places d
+pub item_places_are : (t : Tables) (d : tree.DeclarationTree) → map (λ v. v.place) (declaration_variables t d) ≡ declaration_places d
 item_places_are t d = all_items t d d.items
 
-start_places_are : (t : Tables) (start : tree.Start) → map (λ v. v.place) (start_variables t start) ≡ start_places start
+pub start_places_are : (t : Tables) (start : tree.Start) → map (λ v. v.place) (start_variables t start) ≡ start_places start
 start_places_are t tree.nothing = refl
 start_places_are t (tree.declares d) = item_places_are t d
 start_places_are t (tree.performs x) = refl
 
-joined : (xs ys : List Variable) (ps qs : List Place) → map (λ v. v.place) xs ≡ ps → map (λ v. v.place) ys ≡ qs → map (λ v. v.place) (xs ++ ys) ≡ ps ++ qs
+pub joined : (xs ys : List Variable) (ps qs : List Place) → map (λ v. v.place) xs ≡ ps → map (λ v. v.place) ys ≡ qs → map (λ v. v.place) (xs ++ ys) ≡ ps ++ qs
 joined xs ys ps qs first second = map-append (λ v. v.place) xs ys ∙ ap₂ (λ a b. a ++ b) first second
 
 mutual
@@ -53,11 +53,11 @@ mutual
   row_places_are t (tree.then a more) =
       joined (statement_variables t a) (statements_variables t more) (statement_places a) (statements_places more) (statement_places_are t a) (row_places_are t more)
 
-listed_are : (t : Tables) (ps : List Parameter) → map (λ v. v.place) (map (λ p. declared_variable t p.base p.declarator) ps) ≡ map (λ p. p.declarator.name.place) ps
+pub listed_are : (t : Tables) (ps : List Parameter) → map (λ v. v.place) (map (λ p. declared_variable t p.base p.declarator) ps) ≡ map (λ p. p.declarator.name.place) ps
 listed_are t [] = refl
 listed_are t (p ∷ ps) = ap (λ places. p.declarator.name.place ∷ places) (listed_are t ps)
 
-parameter_places_are : (t : Tables) (ps : tree.ParametersTree) → map (λ v. v.place) (map (λ p. declared_variable t p.base p.declarator) (listed_parameters ps)) ≡ parameters_places ps
+pub parameter_places_are : (t : Tables) (ps : tree.ParametersTree) → map (λ v. v.place) (map (λ p. declared_variable t p.base p.declarator) (listed_parameters ps)) ≡ parameters_places ps
 parameter_places_are t tree.unnamed = refl
 parameter_places_are t (tree.void p) = refl
 parameter_places_are t (tree.listed ps) = listed_are t ps

@@ -124,7 +124,7 @@ start_behind n h s (tree.declares d) seen own none =
     record { known = seen.known; heads = seen_both n h (behind_items n.tables d.base (inside s) d.items).own s.heads later.own seen.heads; own = seen.own; outer = seen.outer }
 start_behind n h s (tree.performs x) seen own none = seen
 
--- ---- what is visible behind a statement
+-- ---- what is visible after a statement
 abbrev pub context : Naming → Option VariableType → Bool → Context
 context n result loop = record { tables = n.tables; result = result; in_loop = loop }
 

@@ -84,8 +84,8 @@ mutual
       (all_declared (resolved_statements n (behind n.tables s a) more))
       (declared_is n s a) (row_is n (behind n.tables s a) more)
 
--- ---- scopes behind
--- behind a declarator
+-- ---- scopes after
+-- after a declarator
 pub declared_in : (n : Naming) (made : List ℕ) (s : Scope) (v : Variable) → number_in n.locals v.place < length n.locals → AreIn n.locals made (visible s)
     → AreIn n.locals (number_in n.locals v.place ∷ made) (visible (declare s v))
 declared_in n made s v known seen =
@@ -97,7 +97,7 @@ declared_in n made s v known seen =
     (λ none. absurd (contains_none x none))
     (contains_cases k [] x there))
 
--- behind a statement
+-- after a statement
 pub behind_in : (n : Naming) (made : List ℕ) (s : Scope) (a : tree.Stmt) → AreKnown n.locals (statement_variables n.tables a) → AreIn n.locals made (visible s)
     → AreIn n.locals (declared (resolved_statement n s a) ++ made) (visible (behind n.tables s a))
 behind_in n made s a known seen =
@@ -109,7 +109,7 @@ behind_in n made s a known seen =
     (owned_in n.locals (ks ++ made) s (loose n.tables a) (wider n.locals ks made (visible s) seen)
     (λ x there. let own = among n.locals n.tables a x there in (known x own, Contains-append_left ks made x own))))
 
--- behind the first part of a `for`
+-- after the first part of a `for`
 pub start_behind_in : (n : Naming) (made : List ℕ) (s : Scope) (start : tree.Start) → AreKnown n.locals (start_variables n.tables start) → AreIn n.locals made (visible s)
     → AreIn n.locals (start_declared (resolved_start n s start) ++ made) (visible (behind_start n.tables s start))
 start_behind_in n made s tree.nothing known seen = seen

@@ -1,5 +1,5 @@
 -- The number of a variable is its place among the variables of its function.
-use Rattle.std.proofs.Common.{◌≡◌, ◌<◌, ℕ, zero, suc, Bool, true, false, ◌&&◌, List, [], ◌∷◌, ◌++◌, map, length, refl, sym, ap, ap₂, subst, ◌∙◌, arith, get_or, Contains, eqb-true, eq-eqb, ⊎_elim}
+use Rattle.std.proofs.Common.{◌≡◌, ◌<◌, ℕ, zero, suc, true, false, List, [], ◌∷◌, ◌++◌, map, length, refl, sym, ap, subst, ◌∙◌, arith, get_or, Contains, ⊎_elim}
 use Rattle.std.proofs.lemmas.List.Sums.{passes_at_first}
 use Rattle.mc_base.specs.declared.text.place.Place.{Place}
 use Rattle.mc_c_types.specs.Tables.{Variable}
@@ -7,24 +7,9 @@ use Rattle.mc_c_types.specs.declared.types.VariableType.TheVariants.{Int}
 use Rattle.mc_semantics.specs.Configs.{is_place}
 use Rattle.mc_semantics.specs.Resolved.Resolving.{number_in, numbers_in}
 use Rattle.mc_lower_laws.proofs.ScopedLemmas.Lists.{Apart, apart_at, mapped, unmapped, contains_none, contains_head, contains_tail, contains_cases}
+use Rattle.mc_semantics.proofs.ResolvedLemmas.Holding.{place_of, place_self, same_or_not}
 
 -- ---- places
-both_true : (a b : Bool) → (a && b) ≡ true → (a ≡ true) × (b ≡ true)
-both_true true b e = (refl, e)
-both_true false b e = absurd (grind (arith, e))
-
-place_of : (p q : Place) → is_place p q ≡ true → p ≡ q
-place_of p q e =
-    let sides = both_true _ _ e in
-    ap₂ (λ (l c : ℕ). let r : Place = record { line = l; column = c } in r) (eqb-true p.line q.line sides.0) (eqb-true p.column q.column sides.1)
-
-place_self : (p : Place) → is_place p p ≡ true
-place_self p = rw (eq-eqb p.line p.line refl) (eq-eqb p.column p.column refl)
-
-same_or_not : {X : Type 0} (b : Bool) → (b ≡ true → X) → (b ≡ false → X) → X
-same_or_not true hit miss = hit refl
-same_or_not false hit miss = miss refl
-
 -- known places with one number are one
 one_place : (locals : List Variable) (p q : Place) → number_in locals p < length locals → number_in locals q < length locals → number_in locals p ≡ number_in locals q → p ≡ q
 one_place locals p q known other same =

@@ -91,7 +91,7 @@ last_in : (n : Naming) (scope : List ℕ) (vs : List Variable) (x : Option tree.
 last_in n scope vs None are e = tt
 last_in n scope vs (Some x) are e = action_in n n.tables scope vs x are e
 
--- ---- scopes behind
+-- ---- scopes after
 behind_in : (n : Naming) (scope : List ℕ) (s : Scope) (a : tree.Stmt) → AreIn n.locals scope (visible s) → AreIn n.locals scope (loose n.tables a)
     → AreIn n.locals scope (visible (behind n.tables s a))
 behind_in n scope s a seen new =
@@ -138,7 +138,7 @@ for_fresh n scope start a d fresh x declared there =
     (λ outer. fresh x (number_right n.locals (start_variables n.tables start) (statement_variables n.tables a) x declared) outer)
     (Contains-append_cases (numbers_in n.locals (loose_start n.tables start)) scope x there)
 
--- ---- two parts, one behind the other
+-- ---- two parts, one after the other
 first_fresh : (locals : List Variable) (scope : List ℕ) (xs ys mine other : List Variable) → ((x : ℕ) → Contains (numbers_in locals other) x → Contains (numbers_in locals ys) x)
     → AreDeclared locals (xs ++ ys) → AreFresh locals scope (xs ++ ys) (other ++ mine) → AreFresh locals scope xs mine
 first_fresh locals scope xs ys mine other from d fresh x declared there =

@@ -1,28 +1,27 @@
 -- Programs without faults are scoped.
-use Rattle.std.proofs.Common.{◌≡◌, ◌≤◌, ⊎_elim, ℕ, zero, suc, Bool, true, false, cond, List, [], ◌∷◌, ◌++◌, Option, Some, None, map, reverse, flat_map, filter, length, slice_get, slice_index_or, refl, sym, ap, ap₂, subst, ◌∙◌, arith, Contains, append-nil}
+use Rattle.std.proofs.Common.{◌≡◌, ◌≤◌, ⊎_elim, ℕ, zero, suc, Bool, true, false, cond, List, [], ◌∷◌, ◌++◌, Option, Some, None, map, reverse, flat_map, filter, length, slice_get, slice_index_or, refl, sym, ap, subst, arith, Contains, append-nil}
 use Rattle.std.specs.Option.{option_map_or}
-use Rattle.std.proofs.lemmas.List.{map-append}
 use Rattle.std.proofs.lemmas.List.Elements.{Contains-append_right, Contains-append_cases}
 use Rattle.std.proofs.lemmas.Option.{same_Some}
 use Rattle.mc_base.specs.declared.text.place.Place.{Place}
-use Rattle.mc_c_syntax.specs.declared.ast.trees.Parameter.{Parameter}
 use Rattle.mc_c_syntax.specs.Ast.Trees as tree
 use Rattle.mc_flow.specs.declared.defs.rules.Def.{Def}
-use Rattle.mc_c_types.specs.Tables.{Tables, tables_of, Variable, parameters_of, listed_parameters, returned_type, is_defined, item_functions, variable_of as declared_variable}
+use Rattle.mc_c_types.specs.Tables.{Tables, tables_of, Variable, parameters_of, listed_parameters, returned_type, is_defined, item_functions}
 use Rattle.mc_c_types.specs.Scopes.{visible}
 use Rattle.mc_c_types.specs.Faults.{Context, statements_faults, body_faults, function_faults, item_tree_faults, table_faults, returned_faults, declarator_faults, repeated}
 use Rattle.mc_c_types.specs.declared.faults.Fault.{Fault}
 use Rattle.mc_c_types.specs.Typing.{IsWellTyped}
-use Rattle.mc_c_grammar.specs.Places.Places.{AreDistinct, declaration_places, start_places, statement_places, statements_places, parameters_places, body_places, function_places, item_places, declared_places}
+use Rattle.mc_c_grammar.specs.Places.Places.{AreDistinct, start_places, statement_places, statements_places, parameters_places, body_places, function_places, item_places, declared_places}
 use Rattle.mc_lower_spec.specs.Scopes.{AreScopedIn, IsScoped, AreScoped}
 use Rattle.mc_semantics.specs.Resolved.Programs.{Function}
 use Rattle.mc_semantics.specs.Resolved.Running.{naming}
-use Rattle.mc_semantics.specs.Resolved.Resolving.{declaration_variables, start_variables, statement_variables, statements_variables, body_statements, function_variables, defined_functions, numbers_in, number_in, local_of, parameter_scope, resolved_statements, resolved_function, resolved_program}
+use Rattle.mc_semantics.specs.Resolved.Resolving.{start_variables, statement_variables, statements_variables, body_statements, function_variables, defined_functions, numbers_in, number_in, local_of, parameter_scope, resolved_statements, resolved_function, resolved_program}
 use Rattle.mc_lower_laws.proofs.ScopedLemmas.Lists.{Apart, apart_left, apart_right, in_reverse, mapped, unmapped}
 use Rattle.mc_lower_laws.proofs.ScopedLemmas.Places.{numbers_known, numbers_apart, first_numbers}
 use Rattle.mc_lower_laws.proofs.ScopedLemmas.Loose.{loose_row, row_among}
 use Rattle.mc_lower_laws.proofs.ScopedLemmas.Faultless.{none_left, none_right, AreIn}
 use Rattle.mc_lower_laws.proofs.ScopedLemmas.Scoping.{AreDeclared, AreFresh, Stands, first_declared, second_declared, not_both, own_in, statements_in}
+use Rattle.mc_lower_laws.proofs.KindsLemmas.Spots.{item_places_are, joined, parameter_places_are, start_places_are}
 
 -- ---- places differ
 first_again : (p : Place) (places : List Place) (there : Contains places p) → slice_index_or (p ∷ places) 0 p ≡ slice_index_or (p ∷ places) (suc there.0) p
@@ -39,22 +38,6 @@ apart_from_distinct (p ∷ places) distinct = (
 )
 
 -- ---- the places of the variables are those of the program
-all_items : (t : Tables) (d : tree.DeclarationTree) (items : List tree.InitialTree)
-    → map (λ v. v.place) (map (λ item. declared_variable t d.base item.declarator) items) ≡ map (λ item. item.declarator.name.place) items
-all_items t d [] = refl
-all_items t d (item ∷ items) = ap (λ places. item.declarator.name.place ∷ places) (all_items t d items)
-
-item_places_are : (t : Tables) (d : tree.DeclarationTree) → map (λ v. v.place) (declaration_variables t d) ≡ declaration_places d
-item_places_are t d = all_items t d d.items
-
-start_places_are : (t : Tables) (start : tree.Start) → map (λ v. v.place) (start_variables t start) ≡ start_places start
-start_places_are t tree.nothing = refl
-start_places_are t (tree.declares d) = item_places_are t d
-start_places_are t (tree.performs x) = refl
-
-joined : (xs ys : List Variable) (ps qs : List Place) → map (λ v. v.place) xs ≡ ps → map (λ v. v.place) ys ≡ qs → map (λ v. v.place) (xs ++ ys) ≡ ps ++ qs
-joined xs ys ps qs first second = map-append (λ v. v.place) xs ys ∙ ap₂ (λ a b. a ++ b) first second
-
 mutual
   statement_places_are : (t : Tables) (a : tree.Stmt) → map (λ v. v.place) (statement_variables t a) ≡ statement_places a
   statement_places_are t (tree.declaration d) = item_places_are t d
@@ -82,15 +65,6 @@ mutual
   row_places_are t tree.no_more = refl
   row_places_are t (tree.then a more) =
       joined (statement_variables t a) (statements_variables t more) (statement_places a) (statements_places more) (statement_places_are t a) (row_places_are t more)
-
-listed_are : (t : Tables) (ps : List Parameter) → map (λ v. v.place) (map (λ p. declared_variable t p.base p.declarator) ps) ≡ map (λ p. p.declarator.name.place) ps
-listed_are t [] = refl
-listed_are t (p ∷ ps) = ap (λ places. p.declarator.name.place ∷ places) (listed_are t ps)
-
-parameter_places_are : (t : Tables) (ps : tree.ParametersTree) → map (λ v. v.place) (map (λ p. declared_variable t p.base p.declarator) (listed_parameters ps)) ≡ parameters_places ps
-parameter_places_are t tree.unnamed = refl
-parameter_places_are t (tree.void p) = refl
-parameter_places_are t (tree.listed ps) = listed_are t ps
 
 body_places_are : (t : Tables) (body : Option tree.BodyTree) → map (λ v. v.place) (statements_variables t (option_map_or (λ b. tree.stmts_of b.statements) body tree.no_more)) ≡ body_places body
 body_places_are t None = refl

@@ -108,7 +108,7 @@ pub record SamePoint (g h : Graph) (i : ℕ) : Type 0 where
 abbrev pub SamePoints : Graph → Graph → (p n : ℕ) → Type 0
 SamePoints g h p n = (i : ℕ) → p ≤ i → i < n → SamePoint g h i
 
--- two steps from s to u and from r to w: they end alike, and where what is behind them begins at the same point, they are the same points
+-- two steps from s to u and from r to w: they end alike, and where what is after them begins at the same point, they are the same points
 pub record Goes (g h : Graph) (out left : ℕ) (Same : Type 0) (s u r w : Stage) : Type 0 where
   pub meets : Meets g h out left u w
   pub back : Same → goal_of u ≡ goal_of w → (goal_of s ≡ goal_of r) × SamePoints g h (points_of s) (points_of u)

@@ -1,4 +1,4 @@
--- Steps that are made alike, one behind the other.
+-- Steps that are made alike, one after the other.
 use Rattle.std.proofs.Common.{◌≡◌, ℕ, suc, refl, sym, ap, subst, inl, inr, arith}
 use Rattle.std.proofs.lemmas.Bool.{cases_lt}
 use Rattle.mc_base.specs.declared.text.place.Place.{Place}
@@ -29,7 +29,7 @@ jumps {g = g} {h = h} {u = u} first second here goals =
           (begin, joined early (subst (λ z. SamePoints g h z (points_of u)) here later));
     }
 
--- behind a test
+-- after a test
 pub test_jumps : {g h : Graph} {out left : ℕ} {Same : Type 0} {s n u r o w : Stage} {t f m k p q i j : ℕ} → Tells g h out left Same s t f m k r p q i j → Goes g h out left Same n u o w → points_of n ≡ m
     → (Same → goal_of u ≡ goal_of w → (t ≡ p) × (f ≡ q)) → Goes g h out left Same s u r w
 test_jumps {g = g} {h = h} {u = u} first second here goals =
@@ -42,7 +42,7 @@ test_jumps {g = g} {h = h} {u = u} first second here goals =
           (begin, joined early (subst (λ z. SamePoints g h z (points_of u)) here later));
     }
 
--- a point behind a test, where the condition is false
+-- a point after a test, where the condition is false
 pub told_then : {g h : Graph} {out left : ℕ} {Same : Type 0} {s r : Stage} {b n k d i j : ℕ} {role : Role} {place : Place} {code : Instr} → Tells g h out left Same s b n n k r d i i j → IsPoint g n role place code → IsPoint h i role place code
     → Goes g h out left Same s (stage b (suc n) k) r (stage d (suc i) j)
 told_then {h = h} {n = n} {role = role} {place = place} {code = code} told is is_too =
@@ -54,7 +54,7 @@ told_then {h = h} {n = n} {role = role} {place = place} {code = code} told is is
           (begin, joined early (λ v low high. same_point is there refl (omega (arith, low, high))));
     }
 
--- what stands behind is reached from elsewhere
+-- what stands after is reached from elsewhere
 pub leads_away : {g h : Graph} {out left : ℕ} {Same : Type 0} {s r : Stage} {x b n k y d i j : ℕ} → Goes g h out left Same s (stage x n k) r (stage y i j) → (Same → x ≡ y) → Goes g h out left Same s (stage b n k) r (stage d i j)
 leads_away steps goals = record { meets = record { points = steps.meets.points; variables = steps.meets.variables; alike = steps.meets.alike }; back = λ same goal. steps.back same (goals same) }
 

@@ -120,7 +120,7 @@ all_evaluated set m lists (evaluates_next {os = os} first rest) (evaluates_next 
     record { value = ap (λ z. z ∷ os) a.value ∙ ap (λ z. o ∷ z) b.value; list = b.list; steps = on a.steps b.steps }
 
 -- ---- conditions
--- two tests from s and r end alike, and where what is behind them begins at the same two points, they are the same points
+-- two tests from s and r end alike, and where what is after them begins at the same two points, they are the same points
 pub record Tells (g h : Graph) (out left : ℕ) (Same : Type 0) (s : Stage) (t f n k : ℕ) (r : Stage) (p q i j : ℕ) : Type 0 where
   pub meets : Meets g h out left (stage t n k) (stage p i j)
   pub back : Same → t ≡ p → f ≡ q → (goal_of s ≡ goal_of r) × SamePoints g h (points_of s) n

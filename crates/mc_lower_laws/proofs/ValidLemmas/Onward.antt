@@ -1,4 +1,4 @@
--- Each point goes on to points behind it, or to loop heads; loop heads and the points where ways meet are Skips.
+-- Each point goes on to points after it, or to loop heads; loop heads and the points where ways meet are Skips.
 use Rattle.std.proofs.Common.{◌≡◌, ◌<◌, ◌≤◌, ◌⊎◌, ℕ, suc, List, [], ◌∷◌, Option, Some, refl, sym, ap, ◌∙◌, subst, length, option_map, arith, inl, inr}
 use Rattle.std.proofs.lemmas.Bool.{cases_lt}
 use Rattle.std.proofs.lemmas.List.Elements.{All-nil, All-cons, All-weaker}
@@ -27,7 +27,7 @@ use Rattle.mc_lower_spec.specs.Lowering.{Lowers, declarations, blocks, empties, 
 use Rattle.mc_lower_spec.specs.Lowering.{Answers, answers_none, answers, Falls, falls_in_main, falls, Makes, makes, AreOfRole, IsLowering}
 use Rattle.mc_lower_spec.proofs.Growing as grown
 
--- there is a first point, each point goes on to points behind it or to loop heads, and loop heads and the points where
+-- there is a first point, each point goes on to points after it or to loop heads, and loop heads and the points where
 -- ways meet are Skips
 pub record GoesOnWell (flow : Flow) : Type 0 where
   pub begins : 0 < length flow.points

@@ -30,7 +30,7 @@ pub record Here : Type 0 where
 abbrev pub IsVariable : Here → Kind → ℕ → Type 0
 IsVariable h kind x = option_map (λ l. l.kind) (slice_get h.function.locals x) ≡ Some kind
 
--- behind a value of a kind, each field but the last one is a pointer, and what is last is of a kind
+-- after a value of a kind, each field but the last one is a pointer, and what is last is of a kind
 abbrev pub LeadsTo : Structs → Kind → List FieldAt → Kind → Type 0
 LeadsTo structs from [] kind = from ≡ kind
 LeadsTo structs from (f ∷ fs) kind =

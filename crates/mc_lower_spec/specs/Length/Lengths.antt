@@ -24,7 +24,7 @@ abbrev pub leaving : (xs made : List ℕ) → ℕ
 leaving xs made = cond (list_any (λ x. list_any (eqb x) made) xs) 1 0
 
 -- ---- expressions
--- each operation, each input and each field behind a variable gets a temporary, and has one point
+-- each operation, each input and each field after a variable gets a temporary, and has one point
 abbrev pub operations : Expr → ℕ
 operations (number n) = 0
 operations input = 1
@@ -39,7 +39,7 @@ all_operations [] = 0
 all_operations (e ∷ es) = operations e + all_operations es
 
 -- ---- conditions
--- behind a test so many temporaries become undefined on both ways
+-- after a test so many temporaries become undefined on both ways
 abbrev pub comparing : ℕ → ℕ
 comparing t = t + suc (clearing t + clearing t)
 
@@ -55,12 +55,12 @@ testing_perhaps None = 0
 testing_perhaps (Some c) = testing c
 
 -- ---- assignments and calls
--- of so many fields behind a variable all but the last one are loaded
+-- of so many fields after a variable all but the last one are loaded
 abbrev pub loading : ℕ → ℕ
 loading zero = 0
 loading (suc n) = n
 
--- an operand is put into a variable, or behind so many fields, and the temporaries become undefined, of which there were so many
+-- an operand is put into a variable, or after so many fields, and the temporaries become undefined, of which there were so many
 abbrev pub putting : (fields temporaries : ℕ) → ℕ
 putting n t = loading n + suc (clearing (t + loading n))
 
@@ -196,7 +196,7 @@ below (suc n) = below n ++ n ∷ []
 abbrev pub calling_rest : (table : List ℕ) → Function → ℕ
 calling_rest table f = awaiting f.result + suc (stretch_all table (below f.parameters) [] f.body)
 
--- behind the body of `main` its result is set
+-- after the body of `main` its result is set
 abbrev pub IsFalling : Function → ℕ → Type 0
 IsFalling f n = (IsMain f → n ≡ 1) × ((IsMain f → ⊥) → n ≡ 0)
 

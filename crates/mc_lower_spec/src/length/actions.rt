@@ -10,7 +10,7 @@ use mc_base::NoMemory;
 use mc_semantics::resolved::{Action, Call, Condition, Expression, Initial, RightSide, Simple};
 use std::alloc::Global;
 
-// Of so many fields behind a variable all but the last one are loaded.
+// Of so many fields after a variable all but the last one are loaded.
 fn loading(fields: usize) -> usize
     ensures { result ≡ loading fields }
 {
@@ -23,8 +23,7 @@ fn putting(fields: usize, temporaries: usize) -> Result<usize, NoMemory>
 {
     let behind = loading(fields);
     let all = sum(temporaries, behind)?;
-    let count = sum(behind, 1 + clearing(all))?;
-    Ok(count)
+    sum(behind, 1 + clearing(all))
 }
 
 // The points by which a variable is set to an expression with so many operations.
@@ -34,8 +33,7 @@ fn setting(operations: usize) -> Result<usize, NoMemory>
     if operations == 0 {
         Ok(1)
     } else {
-        let count = sum(operations, clearing(operations - 1))?;
-        Ok(count)
+        sum(operations, clearing(operations - 1))
     }
 }
 
@@ -50,8 +48,7 @@ fn changing(fields: usize, operations: usize) -> Result<usize, NoMemory>
         let loaded = sum(operations, fields - 1)?;
         let temporaries = sum(loaded, 2)?;
         let stored = sum(loaded, 3)?;
-        let count = sum(stored, clearing(temporaries))?;
-        Ok(count)
+        sum(stored, clearing(temporaries))
     }
 }
 
@@ -72,8 +69,7 @@ fn calling(alloc: Global, table: &[usize], call: &Call) -> Result<usize, NoMemor
     let operations = all_operations(alloc, call.arguments.as_slice())?;
     let copied = sum(operations, call.arguments.len())?;
     let cleared = sum(copied, clearing(operations))?;
-    let count = sum(cleared, rest_of(table, call.function))?;
-    Ok(count)
+    sum(cleared, rest_of(table, call.function))
 }
 
 // The points by which the value of an expression is put somewhere.
@@ -86,8 +82,7 @@ fn assign_value(alloc: Global, value: &Expression, fields: usize) -> Result<usiz
         Ok(count)
     } else {
         let put = putting(fields, operations)?;
-        let count = sum(operations, put)?;
-        Ok(count)
+        sum(operations, put)
     }
 }
 
@@ -99,8 +94,7 @@ fn assign_new(fields: usize) -> Result<usize, NoMemory>
         Ok(1)
     } else {
         let put = putting(fields, 1)?;
-        let count = sum(put, 1)?;
-        Ok(count)
+        sum(put, 1)
     }
 }
 
@@ -116,11 +110,10 @@ fn assign_result(
     let called = calling(alloc, table, call)?;
     let put = putting(fields, 0)?;
     let taken = sum(put, 1)?;
-    let count = sum(called, taken)?;
-    Ok(count)
+    sum(called, taken)
 }
 
-// The points of an assignment to a variable, or to a field behind so many.
+// The points of an assignment to a variable, or to a field after so many.
 fn assigning(
     alloc: Global,
     table: &[usize],
@@ -150,24 +143,16 @@ pub fn acting(alloc: Global, table: &[usize], action: &Action) -> Result<usize, 
     ensures { IfOk result (λ n. n ≡ acting table.now (action_of action.now)) }
 {
     match action {
-        Action::Assign(left, right) => {
-            let count = assigning(alloc, table, right, left.fields.len())?;
-            Ok(count)
-        }
+        Action::Assign(left, right) => assigning(alloc, table, right, left.fields.len()),
         Action::Add(left, value) => {
             let operations = operations(alloc, value)?;
-            let count = changing(left.fields.len(), operations)?;
-            Ok(count)
+            changing(left.fields.len(), operations)
         }
         Action::Subtract(left, value) => {
             let operations = operations(alloc, value)?;
-            let count = changing(left.fields.len(), operations)?;
-            Ok(count)
+            changing(left.fields.len(), operations)
         }
-        Action::Call(call) => {
-            let count = calling(alloc, table, call)?;
-            Ok(count)
-        }
+        Action::Call(call) => calling(alloc, table, call),
     }
 }
 
@@ -177,10 +162,7 @@ pub fn initializing(alloc: Global, table: &[usize], item: &Initial) -> Result<us
 {
     match &item.value {
         None => Ok(1),
-        Some(right) => {
-            let count = assigning(alloc, table, right, 0)?;
-            Ok(count)
-        }
+        Some(right) => assigning(alloc, table, right, 0),
     }
 }
 
@@ -190,10 +172,7 @@ pub fn finishing(alloc: Global, table: &[usize], last: Option<&Simple>) -> Resul
 {
     match last {
         None => Ok(0),
-        Some(simple) => {
-            let count = acting(alloc, table, &simple.action)?;
-            Ok(count)
-        }
+        Some(simple) => acting(alloc, table, &simple.action),
     }
 }
 
@@ -203,10 +182,7 @@ pub fn testing_perhaps(alloc: Global, condition: Option<&Condition>) -> Result<u
 {
     match condition {
         None => Ok(0),
-        Some(condition) => {
-            let count = testing(alloc, condition)?;
-            Ok(count)
-        }
+        Some(condition) => testing(alloc, condition),
     }
 }
 
@@ -217,13 +193,11 @@ fn return_right(alloc: Global, table: &[usize], right: &RightSide) -> Result<usi
     match right {
         RightSide::Expression(value) => {
             let operations = operations(alloc, value)?;
-            let count = setting(operations)?;
-            Ok(count)
+            setting(operations)
         }
         RightSide::Call(call) => {
             let called = calling(alloc, table, call)?;
-            let count = sum(called, 2)?;
-            Ok(count)
+            sum(called, 2)
         }
         RightSide::Malloc(_, _) => Ok(1),
     }
@@ -239,9 +213,6 @@ pub fn returning(
 {
     match value {
         None => Ok(0),
-        Some(right) => {
-            let count = return_right(alloc, table, right)?;
-            Ok(count)
-        }
+        Some(right) => return_right(alloc, table, right),
     }
 }

@@ -22,7 +22,7 @@ use std::mem;
 pub enum Waiting<'a> {
     Statements(&'a [Statement]),
     Statement(&'a Statement),
-    /// The body of a loop, behind which these variables are left.
+    /// The body of a loop, after which these variables are left.
     Loop(&'a [usize], &'a Statement),
     /// These variables are left, inside blocks with those.
     End(&'a [usize], Vec<usize>),
@@ -54,8 +54,7 @@ fn leaving(numbers: &[usize], made: &[usize]) -> usize
 fn push<'a>(tasks: &mut Stack<Waiting<'a>>, task: Waiting<'a>) -> Result<(), NoMemory>
     ensures { OnOk result (tasks.new ≡ task.entry ∷ tasks.old) }
 {
-    tasks.push(task)?;
-    Ok(())
+    tasks.push(task)
 }
 
 impl<'a> Counter<'a> {
@@ -91,14 +90,10 @@ impl<'a> Counter<'a> {
     {
         match start {
             ForStart::Nothing => Ok(()),
-            ForStart::Declaration(_, items) => {
-                self.declare(items.as_slice())?;
-                Ok(())
-            }
+            ForStart::Declaration(_, items) => self.declare(items.as_slice()),
             ForStart::Simple(simple) => {
                 let more = acting(self.alloc, self.table, &simple.action)?;
-                self.add(more)?;
-                Ok(())
+                self.add(more)
             }
         }
     }
@@ -132,8 +127,7 @@ impl<'a> Counter<'a> {
         inner.extend_from_slice(self.blocks.as_slice())?;
         let outer = self.enter(inner);
         push(tasks, Waiting::End(numbers, outer))?;
-        push(tasks, Waiting::Statements(statements))?;
-        Ok(())
+        push(tasks, Waiting::Statements(statements))
     }
 
     // The body of a loop.
@@ -147,8 +141,7 @@ impl<'a> Counter<'a> {
     {
         let outer = self.enter(Vec::new(self.alloc));
         push(tasks, Waiting::End(numbers, outer))?;
-        push(tasks, Waiting::Statement(body))?;
-        Ok(())
+        push(tasks, Waiting::Statement(body))
     }
 
     // Variables are left, and the blocks are those around.
@@ -159,8 +152,7 @@ impl<'a> Counter<'a> {
     {
         let more = leaving(numbers, self.made.as_slice());
         self.enter(outer);
-        self.add(more)?;
-        Ok(())
+        self.add(more)
     }
 
     // A condition, and so many points beside it.
@@ -170,8 +162,7 @@ impl<'a> Counter<'a> {
     {
         let count = testing(self.alloc, condition)?;
         let more = sum(count, beside)?;
-        self.add(more)?;
-        Ok(())
+        self.add(more)
     }
 
     // `free`.
@@ -182,8 +173,7 @@ impl<'a> Counter<'a> {
     {
         let temporaries = operations(self.alloc, pointer)?;
         let more = sum(temporaries, 1 + clearing(temporaries))?;
-        self.add(more)?;
-        Ok(())
+        self.add(more)
     }
 
     // `for`.
@@ -206,8 +196,7 @@ impl<'a> Counter<'a> {
         let more = sum(both, 3)?;
         push(tasks, Waiting::Loop(head.variables.as_slice(), body))?;
         self.start(&head.start)?;
-        self.add(more)?;
-        Ok(())
+        self.add(more)
     }
 
     // `break` and `continue`.
@@ -217,8 +206,7 @@ impl<'a> Counter<'a> {
             ≡ leaving self.old.blocks.items self.old.made.items + total self.old tasks) }
     {
         let more = leaving(self.blocks.as_slice(), self.made.as_slice());
-        self.add(more)?;
-        Ok(())
+        self.add(more)
     }
 
     // `return`, perhaps with a value.
@@ -227,8 +215,7 @@ impl<'a> Counter<'a> {
             ≡ returning self.old.table.now (option_map (λ r. right_of r.now) value.entry) + total self.old tasks) }
     {
         let more = returning(self.alloc, self.table, value)?;
-        self.add(more)?;
-        Ok(())
+        self.add(more)
     }
 
     // A simple statement.
@@ -237,8 +224,7 @@ impl<'a> Counter<'a> {
             ≡ acting self.old.table.now (action_of simple.now.action) + total self.old tasks) }
     {
         let more = acting(self.alloc, self.table, &simple.action)?;
-        self.add(more)?;
-        Ok(())
+        self.add(more)
     }
 
     // A statement that declares nothing and has none inside.
@@ -247,46 +233,16 @@ impl<'a> Counter<'a> {
         ensures { OnOk result ((tasks : List Waiting) → total self.new tasks ≡ total self.old (One statement.entry ∷ tasks)) }
     {
         match statement {
-            Statement::Simple(simple) => {
-                self.simple(simple)?;
-                Ok(())
-            }
-            Statement::Free(_, pointer) => {
-                self.free(pointer)?;
-                Ok(())
-            }
-            Statement::Assert(_, condition) => {
-                self.test(condition, 1)?;
-                Ok(())
-            }
-            Statement::Assume(_, condition) => {
-                self.test(condition, 1)?;
-                Ok(())
-            }
-            Statement::AssumeShape(_) => {
-                self.add(1)?;
-                Ok(())
-            }
-            Statement::AssertShape(_) => {
-                self.add(1)?;
-                Ok(())
-            }
-            Statement::AssertEmpty(_) => {
-                self.add(1)?;
-                Ok(())
-            }
-            Statement::Break(_) => {
-                self.jump()?;
-                Ok(())
-            }
-            Statement::Continue(_) => {
-                self.jump()?;
-                Ok(())
-            }
-            Statement::Return(_, value) => {
-                self.returns(value.as_ref())?;
-                Ok(())
-            }
+            Statement::Simple(simple) => self.simple(simple),
+            Statement::Free(_, pointer) => self.free(pointer),
+            Statement::Assert(_, condition) => self.test(condition, 1),
+            Statement::Assume(_, condition) => self.test(condition, 1),
+            Statement::AssumeShape(_) => self.add(1),
+            Statement::AssertShape(_) => self.add(1),
+            Statement::AssertEmpty(_) => self.add(1),
+            Statement::Break(_) => self.jump(),
+            Statement::Continue(_) => self.jump(),
+            Statement::Return(_, value) => self.returns(value.as_ref()),
             Statement::Declaration(_, _)
             | Statement::Block(_, _)
             | Statement::Empty
@@ -309,34 +265,26 @@ impl<'a> Counter<'a> {
     {
         match statement {
             Statement::Block(numbers, inner) => {
-                self.block(tasks, numbers.as_slice(), inner.as_slice())?;
-                Ok(())
+                self.block(tasks, numbers.as_slice(), inner.as_slice())
             }
             Statement::If(_, condition, part) => {
                 self.test(condition, 1)?;
-                push(tasks, Waiting::Statement(part))?;
-                Ok(())
+                push(tasks, Waiting::Statement(part))
             }
             Statement::IfElse(_, condition, first, second) => {
                 self.test(condition, 1)?;
                 push(tasks, Waiting::Statement(second))?;
-                push(tasks, Waiting::Statement(first))?;
-                Ok(())
+                push(tasks, Waiting::Statement(first))
             }
             Statement::While(_, condition, body) => {
                 self.test(condition, 2)?;
-                push(tasks, Waiting::Loop(&[], body))?;
-                Ok(())
+                push(tasks, Waiting::Loop(&[], body))
             }
             Statement::Do(_, body, condition) => {
                 self.test(condition, 3)?;
-                push(tasks, Waiting::Loop(&[], body))?;
-                Ok(())
+                push(tasks, Waiting::Loop(&[], body))
             }
-            Statement::For(head, body) => {
-                self.for_loop(tasks, head, body)?;
-                Ok(())
-            }
+            Statement::For(head, body) => self.for_loop(tasks, head, body),
             Statement::Declaration(_, _)
             | Statement::Empty
             | Statement::Simple(_)
@@ -362,19 +310,13 @@ impl<'a> Counter<'a> {
     {
         match statement {
             Statement::Empty => Ok(()),
-            Statement::Declaration(_, items) => {
-                self.declare(items.as_slice())?;
-                Ok(())
-            }
+            Statement::Declaration(_, items) => self.declare(items.as_slice()),
             Statement::Block(_, _)
             | Statement::If(_, _, _)
             | Statement::IfElse(_, _, _, _)
             | Statement::While(_, _, _)
             | Statement::Do(_, _, _)
-            | Statement::For(_, _) => {
-                self.outer(tasks, statement)?;
-                Ok(())
-            }
+            | Statement::For(_, _) => self.outer(tasks, statement),
             Statement::Simple(_)
             | Statement::Free(_, _)
             | Statement::Assert(_, _)
@@ -384,10 +326,7 @@ impl<'a> Counter<'a> {
             | Statement::AssertEmpty(_)
             | Statement::Break(_)
             | Statement::Continue(_)
-            | Statement::Return(_, _) => {
-                self.single(statement)?;
-                Ok(())
-            }
+            | Statement::Return(_, _) => self.single(statement),
         }
     }
 
@@ -403,8 +342,7 @@ impl<'a> Counter<'a> {
             return Ok(());
         };
         push(tasks, Waiting::Statements(more))?;
-        push(tasks, Waiting::Statement(first))?;
-        Ok(())
+        push(tasks, Waiting::Statement(first))
     }
 
     // What is next.
@@ -412,22 +350,10 @@ impl<'a> Counter<'a> {
         ensures { OnOk result (total self.new tasks.new ≡ total self.old (task.entry ∷ tasks.old)) }
     {
         match task {
-            Waiting::Statements(statements) => {
-                self.statements(tasks, statements)?;
-                Ok(())
-            }
-            Waiting::Statement(statement) => {
-                self.statement(tasks, statement)?;
-                Ok(())
-            }
-            Waiting::Loop(numbers, body) => {
-                self.body(tasks, numbers, body)?;
-                Ok(())
-            }
-            Waiting::End(numbers, outer) => {
-                self.end(numbers, outer)?;
-                Ok(())
-            }
+            Waiting::Statements(statements) => self.statements(tasks, statements),
+            Waiting::Statement(statement) => self.statement(tasks, statement),
+            Waiting::Loop(numbers, body) => self.body(tasks, numbers, body),
+            Waiting::End(numbers, outer) => self.end(numbers, outer),
         }
     }
 

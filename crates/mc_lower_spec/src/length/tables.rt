@@ -33,8 +33,7 @@ fn calling_rest(alloc: Global, table: &[usize], function: &Function) -> Result<u
     ensures { IfOk result (λ n. n ≡ calling_rest table.now (function_of function.now)) }
 {
     let body = body_points(alloc, table, function.parameters, function.body.as_slice())?;
-    let count = sum(body, 1 + awaiting(function.result))?;
-    Ok(count)
+    sum(body, 1 + awaiting(function.result))
 }
 
 // The entry of a function is what the table makes it.
@@ -86,7 +85,7 @@ fn is_right(alloc: Global, functions: &[Function], table: &[usize]) -> Result<bo
     Ok(true)
 }
 
-// The table of what calls come to: in rounds, until nothing changes. One is enough where functions stand behind those that they call.
+// The table of what calls come to: in rounds, until nothing changes. One is enough where functions stand after those that they call.
 fn table_of(alloc: Global, functions: &[Function]) -> Result<Vec<usize>, NoMemory>
     ensures { IfOk result (λ table. IsTable table.items (map function_of functions.now)) }
 {
@@ -111,7 +110,7 @@ fn is_main(function: &Function) -> bool
     function.name.as_slice() == b"main".as_slice() && function.result == Some(Kind::Int)
 }
 
-// The point by which the result of `main` is set behind its body.
+// The point by which the result of `main` is set after its body.
 fn falling(function: &Function) -> usize
     ensures { IsFalling (function_of function.now) result }
 {

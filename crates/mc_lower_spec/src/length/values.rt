@@ -42,8 +42,7 @@ pub struct Tested<'c> {
 fn push_part<'e>(work: &mut Stack<Part<'e>>, whole: &'e Expression) -> Result<(), NoMemory>
     ensures { OnOk result (parts_left work.new ≡ operations (expression_of whole.now) + parts_left work.old) }
 {
-    work.push(Part { whole })?;
-    Ok(())
+    work.push(Part { whole })
 }
 
 // Two expressions are next.
@@ -56,8 +55,7 @@ fn push_parts<'e>(
         ≡ operations (expression_of first.now) + operations (expression_of second.now) + parts_left work.old) }
 {
     push_part(work, second)?;
-    push_part(work, first)?;
-    Ok(())
+    push_part(work, first)
 }
 
 // The points of an expression but for those of its parts, which are next.
@@ -129,8 +127,7 @@ fn comparing(temporaries: usize) -> Result<usize, NoMemory>
 fn push_test<'c>(work: &mut Stack<Tested<'c>>, whole: &'c Condition) -> Result<(), NoMemory>
     ensures { OnOk result (tests_left work.new ≡ testing (condition_of whole.now) + tests_left work.old) }
 {
-    work.push(Tested { whole })?;
-    Ok(())
+    work.push(Tested { whole })
 }
 
 // Two conditions are next.
@@ -143,8 +140,7 @@ fn push_tests<'c>(
         ≡ testing (condition_of first.now) + testing (condition_of second.now) + tests_left work.old) }
 {
     push_test(work, second)?;
-    push_test(work, first)?;
-    Ok(())
+    push_test(work, first)
 }
 
 // The points of a comparison of two expressions.
@@ -154,8 +150,7 @@ fn compare(alloc: Global, left: &Expression, right: &Expression) -> Result<usize
     let first = operations(alloc, left)?;
     let second = operations(alloc, right)?;
     let both = sum(first, second)?;
-    let count = comparing(both)?;
-    Ok(count)
+    comparing(both)
 }
 
 // The points of a condition but for those of its parts, which are next.
@@ -169,13 +164,9 @@ fn take_test_apart<'c>(
     match whole {
         Condition::Plain(_, value) => {
             let temporaries = operations(alloc, value)?;
-            let count = comparing(temporaries)?;
-            Ok(count)
+            comparing(temporaries)
         }
-        Condition::Compare(_, _, left, right) => {
-            let count = compare(alloc, left, right)?;
-            Ok(count)
-        }
+        Condition::Compare(_, _, left, right) => compare(alloc, left, right),
         Condition::Not(part) => {
             push_test(work, part)?;
             Ok(0)

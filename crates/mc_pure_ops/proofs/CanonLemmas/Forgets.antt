@@ -24,7 +24,7 @@ use Rattle.mc_pure_ops.specs.Canon.Gaps.{ArePair, IsPlain, IsTurned, gap_atom, t
 use Rattle.mc_pure_ops.specs.Canon.Forgotten.{without_node, IsForgotten}
 use Rattle.mc_pure.specs.Whole.{kinds_without, IsInside, IsWholeList}
 use Rattle.mc_pure_ops.proofs.CanonLemmas.Lists.{same_node, added_as}
-use Rattle.mc_pure_ops.proofs.CanonLemmas.Nodes.{decide, eq_as, ne_as, place_of_kind, place_kept, place_heir}
+use Rattle.mc_pure_ops.proofs.CanonLemmas.Nodes.{decide, ne_as, place_of_kind, place_kept, place_heir}
 use Rattle.mc_pure_ops.proofs.CanonLemmas.Others as others
 use Rattle.mc_pure_ops.proofs.CanonLemmas.Others.{kind_without, lost_without, node_without, place_without, over_all}
 use Rattle.mc_pure_ops.proofs.CanonLemmas.Moving.{apart_to}
@@ -32,6 +32,7 @@ use Rattle.mc_pure_ops.proofs.CanonLemmas.Plain.{range_of, plain, IsPlainly}
 use Rattle.mc_pure_ops.proofs.CanonLemmas.Exact.{IsDifferenceLeft, difference_true, difference_made}
 use Rattle.mc_pure_ops.proofs.CanonLemmas.Within.{moved_ne, range_in, class_in, plain_in}
 use Rattle.mc_pure_ops.proofs.CanonLemmas.Listing.{gained, listed, left_in, right_in, either_in, range_step, class_step, difference_step}
+use Rattle.mc_pure_ops.proofs.JoinLemmas.Follow.{eq_as}
 
 apart_or : (r s : Row) (c : ℤ) → Apart r s c ⊎ (Apart r s c → ⊥)
 apart_or r s c = elim (first (high r) (low s +ℤ c)) [
@@ -264,7 +265,7 @@ module _ (law : NormalSaysAll) (grows : FollowsFromMore) (p : Pure) (true_p : Is
     class_atom_from (Ne a b c) k = absurd k
     class_atom_from (Eq a b c) k = (k.0, k.1, least_to b k.4, from_p (Eq a b c) k.5 (k.3, k.4.left))
 
-    -- what follows from the ranges and equalities alone
+    -- what is entailed by the ranges and equalities alone
     r_base : (f : Atom) → Base r f → (IsTie f × Follows p f) ⊎ ((i j : ℕ) × (x y : NodeId) × (let none : List NodeId = [] in ArePair none i j x y) × (f ≡ Ne x y (pos 0)))
     r_base f (written place e) = let k = tie_in f (place, e) in inl (k.0, k.1)
     r_base _ begin.zero = inl (tt, base begin.zero)
@@ -354,7 +355,7 @@ module _ (law : NormalSaysAll) (grows : FollowsFromMore) (p : Pure) (true_p : Is
     pub forgotten : (atoms : List Atom) → atoms ≡ (R ++ (E ++ D)) ++ I → IsForgotten p g atoms
     forgotten atoms e = subst (λ (z : List Atom). IsForgotten p g z) (sym e) forgotten_all
 
--- the four lists, one behind the other
+-- the four lists, one after the other
 pub forgotten_list : (law : NormalSaysAll) (grows : FollowsFromMore) (p : Pure) → (IsFalse p → ⊥) → HasNormalForm p → (g : NodeId) → g ≢ null → (lost : Option NodeId) (heir : Option ClassPlace) → lost ≡ Some g → IsLeftOut p lost heir → (R E D I first second atoms : List Atom) (s u : List NodeId) → s ≡ p.starts → u ≡ p.starts → Added (IsRangeLeft p lost) [] R → Added (IsClassLeft p lost) [] E → Added (DifferenceLeft p lost [] false s) [] D → Added (DifferenceLeft p lost [] true u) [] I → first ≡ R ++ E → second ≡ first ++ D → atoms ≡ second ++ I → IsForgotten p g atoms
 forgotten_list law grows p t form g nz lost heir l out R E D I first second atoms s u es eu ra ea da ia f h a =
     let out' = subst (λ (z : Option NodeId). IsLeftOut p z heir) l out in

@@ -13,7 +13,8 @@ use Rattle.mc_pure.specs.declared.classes.ClassPlace.{ClassPlace}
 use Rattle.mc_pure_ops.specs.Canon.Left.{IsLeftOut, IsHeir}
 use Rattle.mc_pure_ops.specs.Canon.Forgotten.{IsHeirBelow, IsNextHeir}
 use Rattle.mc_pure_ops.proofs.CanonLemmas.Lists.{number}
-use Rattle.mc_pure_ops.proofs.CanonLemmas.Nodes.{eq_as, node_listed, least_once, least_whole}
+use Rattle.mc_pure_ops.proofs.CanonLemmas.Nodes.{node_listed, least_once, least_whole}
+use Rattle.mc_pure_ops.proofs.JoinLemmas.Follow.{eq_as}
 
 split : (k n : ℕ) → k < suc n → (k < n) ⊎ (k ≡ n)
 split k n l = grind arith

@@ -11,7 +11,8 @@ use Rattle.mc_pure.specs.Derived.{Follows, IsFalse, HasRange, turned, chained}
 use Rattle.mc_pure.specs.Canonical.{IsRangeAtom, IsClassAtom, ComesBefore, AreInOrder, AreListed}
 use Rattle.mc_pure_ops.specs.Canon.Order.{Among, IsBefore, AreSorted, Added}
 use Rattle.mc_pure_ops.proofs.CanonLemmas.Lists.{same_node}
-use Rattle.mc_pure_ops.proofs.CanonLemmas.Nodes.{eq_as, range_once, offset_once, least_once, least_whole}
+use Rattle.mc_pure_ops.proofs.CanonLemmas.Nodes.{offset_once, least_once, least_whole}
+use Rattle.mc_pure_ops.proofs.JoinLemmas.Follow.{eq_as, range_once}
 
 pub contains_from : (xs : List Atom) (f : Atom) → Among xs f → Contains xs f
 contains_from xs f m = (m.0, slice_get_within xs m.0 f m.1, get_or_from_slice_get xs m.0 f f m.1)

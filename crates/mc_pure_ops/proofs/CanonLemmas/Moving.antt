@@ -15,7 +15,8 @@ use Rattle.mc_pure_ops.specs.Canon.Order.{GivesAtMost}
 use Rattle.mc_pure_ops.specs.Canon.Left.{IsPlace, FindsPlace}
 use Rattle.mc_pure_ops.specs.Canon.Gaps.{AreNodes, AreApart, ArePair, IsMoved, MovedPlaces, StartGives, StartsGive, IsPlain, IsTurned, gap_atom, turned_gap, Shows, Gives, GapOf, PairGives, PairsGiveAt}
 use Rattle.mc_pure_ops.proofs.CanonLemmas.Lists.{at_most_as}
-use Rattle.mc_pure_ops.proofs.CanonLemmas.Nodes.{eq_as, ne_as, range_once, place_once, not_below, kind_range}
+use Rattle.mc_pure_ops.proofs.CanonLemmas.Nodes.{ne_as, place_once, not_below, kind_range}
+use Rattle.mc_pure_ops.proofs.JoinLemmas.Follow.{eq_as, range_once}
 
 pub gap_same : (a b : Gap) → a.left ≡ b.left → a.right ≡ b.right → a.by ≡ b.by → a ≡ b
 gap_same a b p q r =

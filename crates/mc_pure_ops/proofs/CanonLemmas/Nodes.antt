@@ -1,23 +1,23 @@
 -- Nodes in lists, and the facts of equalities and ranges that need no normal form.
-use Rattle.std.proofs.Common.{◌≡◌, ◌≢◌, ℕ, zero, suc, ◌⊎◌, ◌≤◌, ℤ, pos, negsuc, ◌+ℤ◌, ◌-ℤ◌, neg_ℤ, ◌≤ℤ◌, ◌<ℤ◌, List, [], ◌∷◌, Option, Some, None, slice_get, map, nat_eq, Bool, true, false, refl, sym, ◌∙◌, ap, subst, inl, inr, arith}
+use Rattle.std.proofs.Common.{◌≡◌, ◌≢◌, ℕ, zero, suc, ◌⊎◌, ◌≤◌, ℤ, pos, negsuc, ◌+ℤ◌, ◌-ℤ◌, neg_ℤ, ◌≤ℤ◌, ◌<ℤ◌, [], ◌∷◌, Option, Some, None, slice_get, map, nat_eq, true, false, refl, sym, ◌∙◌, ap, subst, inl, inr, arith}
 use Rattle.std.proofs.lemmas.Int.{ints, clamps}
 use Rattle.std.specs.Int.{int_max, int_min}
 use Rattle.std.proofs.lemmas.Bool.Decides.{nat_tests}
 use Rattle.mc_base.specs.declared.ids.NodeId.{NodeId}
 use Rattle.mc_base.specs.declared.plain.Kind.{Kind}
 use Rattle.mc_base.specs.declared.plain.Kind.TheVariants.{Int, Ptr}
-use Rattle.mc_base.specs.declared.plain.Atom.{Atom}
 use Rattle.mc_base.specs.declared.plain.Atom.TheVariants.{Eq, Ne, In}
 use Rattle.mc_base.specs.Nodes.{null}
 use Rattle.mc_pure.specs.Pure as begin
 use Rattle.mc_pure.specs.Pure.{Pure, Kinds, IsNode, kind_of, low_of, high_of}
 use Rattle.mc_pure.specs.Rows.{nodes_of}
-use Rattle.mc_pure.specs.Derived.{Follows, IsFalse, HasRange, base, turned, chained, shifted, met, widened, empty, more}
+use Rattle.mc_pure.specs.Derived.{Follows, IsFalse, base, turned, chained, shifted, met, empty, more}
 use Rattle.mc_pure.specs.Canonical.{IsLeast}
 use Rattle.mc_pure.specs.Classes.{IsLong}
 use Rattle.mc_pure.specs.declared.classes.ClassPlace.{ClassPlace}
-use Rattle.mc_pure_ops.specs.Canon.Left.{IsLeft, IsLeastLeft, IsPlace, IsHeir, IsLeftOut, FindsPlace}
+use Rattle.mc_pure_ops.specs.Canon.Left.{IsLeft, IsLeastLeft, IsPlace, IsLeftOut, FindsPlace}
 use Rattle.mc_pure_ops.proofs.CanonLemmas.Lists.{same_node, number}
+use Rattle.mc_pure_ops.proofs.JoinLemmas.Follow.{eq_as}
 
 yes : (m n : ℕ) → m ≡ n → nat_eq m n ≡ true
 yes m n e = grind (arith, nat_tests)
@@ -96,10 +96,6 @@ place_same a b p q =
     ap (λ (z : NodeId). let x : ClassPlace = record { least = z; offset = a.offset } in x) p
     ∙ ap (λ (z : ℤ). let x : ClassPlace = record { least = b.least; offset = z } in x) q
 
-pub eq_as : (p : Pure) {a b a' b' : NodeId} {c c' : ℤ} → Follows p (Eq a b c) → a ≡ a' → b ≡ b' → c ≡ c' → Follows p (Eq a' b' c')
-eq_as p {a} {b} {a'} {b'} {c} {c'} d e f g =
-    subst (λ (z : ℤ). Follows p (Eq a' b' z)) g (subst (λ (z : NodeId). Follows p (Eq a' z c)) f (subst (λ (z : NodeId). Follows p (Eq z b c)) e d))
-
 pub in_as : (p : Pure) {a : NodeId} {l h l' h' : ℤ} → Follows p (In a l h) → l ≡ l' → h ≡ h' → Follows p (In a l' h')
 in_as p {a} {l} {h} {l'} {h'} d e f = subst (λ (z : ℤ). Follows p (In a l' z)) f (subst (λ (z : ℤ). Follows p (In a z h)) e d)
 
@@ -154,12 +150,6 @@ module _ (p : Pure) (nf : IsFalse p → ⊥) where
       let y = kind_range p b nb in
       let m = meets a x.0 x.1 (y.0 +ℤ c) (y.1 +ℤ c) x.2 (shifted d y.2) in
       (omega (arith, ints, m.0, x.3, y.4), omega (arith, ints, m.1, x.4, y.3))
-
-  pub range_once : (n : NodeId) (l h m k : ℤ) → HasRange p n l h → HasRange p n m k → (l ≡ m) × (h ≡ k)
-  range_once n l h m k x y =
-      let u = x.least m k y.follows in
-      let v = y.least l h x.follows in
-      (omega (arith, ints, u.0, v.0), omega (arith, ints, u.1, v.1))
 
 -- the place in the whole class
 pub whole_place : (p : Pure) (n : NodeId) (place : ClassPlace) → IsLeast p place.least → Follows p (Eq n place.least place.offset) → IsPlace p None n place

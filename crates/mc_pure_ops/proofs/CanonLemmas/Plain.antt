@@ -16,8 +16,9 @@ use Rattle.mc_pure.specs.Laws.{FollowsFromMore}
 use Rattle.mc_pure_ops.specs.declared.canon.gaps.Gap.{Gap}
 use Rattle.mc_pure_ops.specs.Canon.Order.{Among}
 use Rattle.mc_pure_ops.specs.Canon.Gaps.{ArePair, IsMoved, StartsGive, IsPlain}
-use Rattle.mc_pure_ops.proofs.CanonLemmas.Nodes.{node_there, node_listed, eq_as}
+use Rattle.mc_pure_ops.proofs.CanonLemmas.Nodes.{node_there, node_listed}
 use Rattle.mc_pure_ops.proofs.CanonLemmas.Moving.{apart_to}
+use Rattle.mc_pure_ops.proofs.JoinLemmas.Follow.{eq_as}
 
 -- the ranges and equalities that a normal form says of nodes
 abbrev pub ties_of : (NodeId → Row) → List NodeId → List Atom

@@ -13,7 +13,8 @@ use Rattle.mc_pure.specs.declared.classes.ClassPlace.{ClassPlace}
 use Rattle.mc_pure_ops.specs.Canon.Order.{Added, GivesAtMost}
 use Rattle.mc_pure_ops.specs.Canon.Left.{IsLeft, IsPlace, FindsPlace, IsRangeLeft, IsClassLeft, OfNode, OfNodes}
 use Rattle.mc_pure_ops.proofs.CanonLemmas.Lists.{added_as, Upto, upto_all}
-use Rattle.mc_pure_ops.proofs.CanonLemmas.Nodes.{eq_as, node_listed, place_once, range_once}
+use Rattle.mc_pure_ops.proofs.CanonLemmas.Nodes.{node_listed, place_once}
+use Rattle.mc_pure_ops.proofs.JoinLemmas.Follow.{eq_as, range_once}
 
 in_same : (a : NodeId) (l m h k : ℤ) → l ≡ m → h ≡ k → In a l h ≡ In a m k
 in_same a l m h k p q = cc

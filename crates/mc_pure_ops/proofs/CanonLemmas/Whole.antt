@@ -140,7 +140,7 @@ not_false p b e f w = let t = e.1 w in let g : true ≡ false = sym (is_true b t
 pub is_false : (p : Pure) (b : Bool) → IsTrue b ↔ IsFalse p → b ≡ true → IsFalse p
 is_false p b e f = e.0 (rw f refl)
 
--- the three lists, one behind the other
+-- the three lists, one after the other
 pub canonical : (law : NormalSaysAll) (grows : FollowsFromMore) (p : Pure) → (IsFalse p → ⊥) → HasNormalForm p → (lost : Option NodeId) → lost ≡ None → (ranges equalities differences first atoms : List Atom) (starts : List NodeId) → starts ≡ p.starts → Added (IsRangeLeft p lost) [] ranges → Added (IsClassLeft p lost) [] equalities → Added (DifferenceLeft p lost starts false []) [] differences → first ≡ ranges ++ equalities → atoms ≡ first ++ differences → IsCanonical p atoms
 canonical law grows p t form lost l R E D first atoms starts s rs es ds f a =
     let rs' = subst (λ (z : Option NodeId). Added (IsRangeLeft p z) [] R) l rs in

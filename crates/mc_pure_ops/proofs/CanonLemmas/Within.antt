@@ -15,8 +15,9 @@ use Rattle.mc_pure.specs.Classes.{NormalSaysAll}
 use Rattle.mc_pure_ops.specs.declared.canon.gaps.Gap.{Gap}
 use Rattle.mc_pure_ops.specs.Canon.Left.{IsLeft, IsLeastLeft, IsRangeLeft, IsClassLeft}
 use Rattle.mc_pure_ops.specs.Canon.Gaps.{ArePair, IsPlain, gap_atom}
-use Rattle.mc_pure_ops.proofs.CanonLemmas.Nodes.{decide, eq_as, in_as, ne_as, not_below, self_zero, meets}
+use Rattle.mc_pure_ops.proofs.CanonLemmas.Nodes.{decide, in_as, ne_as, not_below, self_zero, meets}
 use Rattle.mc_pure_ops.proofs.CanonLemmas.Plain.{range_of}
+use Rattle.mc_pure_ops.proofs.JoinLemmas.Follow.{eq_as}
 
 -- a disequality moved along two equalities
 pub moved_ne : (r : Pure) (x y a b : NodeId) (d e h c : ℤ) → Follows r (Ne x y d) → Follows r (Eq x a e) → Follows r (Eq y b h) → c ≡ (h +ℤ d) -ℤ e → Follows r (Ne a b c)

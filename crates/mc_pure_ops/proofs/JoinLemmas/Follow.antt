@@ -14,7 +14,8 @@ use Rattle.mc_pure.specs.Derived.{Follows, IsFalse, Derived, HasRange, base, tur
 use Rattle.mc_pure.specs.Canonical.{IsLeast}
 use Rattle.mc_pure_ops.specs.declared.join.equalities.Shift.{Shift}
 use Rattle.mc_pure_ops.specs.Join.Parts.{IsDistance}
-use Rattle.mc_pure_ops.proofs.JoinLemmas.Sorted.{same_node, kind_place}
+use Rattle.mc_pure_ops.proofs.JoinLemmas.Sorted.{kind_place}
+use Rattle.mc_pure.proofs.Changing.{same_node}
 
 pub not_below : (a b : ℤ) → (b <ℤ a → ⊥) → a ≤ℤ b
 not_below a b n = grind (arith, ints)

@@ -8,7 +8,7 @@ use Rattle.mc_pure_ops.specs.Canon.Order.{Among, IsSomeOf, GivesAtMost}
 use Rattle.mc_pure_ops.specs.Join.Gains.{Gains}
 use Rattle.mc_pure_ops.specs.Join.Parts.{Below, AtPlace}
 
--- behind a list
+-- after a list
 last_among : (fs : List Atom) (f : Atom) → Among (fs ++ f ∷ []) f
 last_among [] f = (zero, refl)
 last_among (g ∷ fs) f = let h = last_among fs f in (suc h.0, h.1)

@@ -14,8 +14,9 @@ use Rattle.mc_pure_ops.specs.Canon.Order.{GivesAtMost}
 use Rattle.mc_pure_ops.specs.declared.join.equalities.Shift.{Shift}
 use Rattle.mc_pure_ops.specs.Join.Joint.{Pairs, StandsFor, HaveOneKind, AreJoinable, IsKindOfPair}
 use Rattle.mc_pure_ops.specs.Join.Parts.{node, AreThere, IsDistance, EqualityAt, DifferenceAt, ListedAt, MayBeKind, HasFirst, HasAll}
-use Rattle.mc_pure_ops.proofs.JoinLemmas.Sorted.{same_node, number, decide, some_same, not_none, rise_with, with_here, with_other}
+use Rattle.mc_pure_ops.proofs.JoinLemmas.Sorted.{decide, some_same, not_none, rise_with, with_here, with_other}
 use Rattle.mc_pure_ops.proofs.JoinLemmas.Follow.{eq_as, follows_of}
+use Rattle.mc_pure.proofs.Changing.{number, same_node}
 
 abbrev pub Pair : Type 0
 Pair = NodeId × NodeId

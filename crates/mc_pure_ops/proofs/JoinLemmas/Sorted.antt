@@ -1,53 +1,25 @@
 -- Lists of nodes with their kinds.
-use Rattle.std.proofs.Common.{◌≡◌, ◌≢◌, ℕ, zero, suc, ◌<◌, ◌≤◌, ◌⊎◌, [], ◌∷◌, Some, None, slice_get, nat_eq, nat_lt, true, false, refl, sym, ◌∙◌, ap, subst, inl, inr, arith}
+use Rattle.std.proofs.Common.{◌≡◌, ◌≢◌, ℕ, zero, suc, ◌<◌, ◌≤◌, ◌⊎◌, [], ◌∷◌, Some, None, slice_get, nat_lt, true, false, refl, sym, ◌∙◌, ap, subst, inl, inr, arith}
 use Rattle.std.proofs.lemmas.Bool.Decides.{nat_tests}
 use Rattle.mc_base.specs.declared.ids.NodeId.{NodeId}
 use Rattle.mc_base.specs.declared.plain.Kind.{Kind}
 use Rattle.mc_base.specs.Nodes.{null}
 use Rattle.mc_pure.specs.Pure.{Kinds, kind_of}
 use Rattle.mc_pure.specs.Nodes.{RiseFrom, with_kind}
+use Rattle.mc_pure.proofs.Changing.{no, number, same_node}
+use Rattle.mc_pure.proofs.Placing.{Entry, here_kind, later_kind, less_or}
 
-pub same_node : (a b : NodeId) → a.0 ≡ b.0 → a ≡ b
-same_node a b e = ap (λ (n : ℕ). let x : NodeId = record { 0 = n } in x) e
-
-pub number : {a b : NodeId} → a ≡ b → a.0 ≡ b.0
-number e = ap (λ (n : NodeId). n.0) e
-
-same : (a b : ℕ) → (a ≡ b) ⊎ (a ≢ b)
+pub same : (a b : ℕ) → (a ≡ b) ⊎ (a ≢ b)
 same a b = grind arith
 
-yes : (a b : ℕ) → a ≡ b → nat_eq a b ≡ true
-yes a b e = grind (arith, nat_tests)
-
-no : (a b : ℕ) → a ≢ b → nat_eq a b ≡ false
-no a b e = grind (arith, nat_tests)
-
-less : (a b : ℕ) → a < b → nat_lt a b ≡ true
+pub less : (a b : ℕ) → a < b → nat_lt a b ≡ true
 less a b l = grind (arith, nat_tests)
 
-not_less : (a b : ℕ) → b ≤ a → nat_lt a b ≡ false
+pub not_less : (a b : ℕ) → b ≤ a → nat_lt a b ≡ false
 not_less a b l = grind (arith, nat_tests)
 
 pub decide : (a b : NodeId) → (a ≡ b) ⊎ (a ≢ b)
 decide a b = elim (same a.0 b.0) [ inl x ↦ inl (same_node a b x) | inr x ↦ inr (λ e. x (number e)) ]
-
-pub same_true : (a b : NodeId) → a ≡ b → nat_eq a.0 b.0 ≡ true
-same_true a b e = yes a.0 b.0 (number e)
-
-pub same_false : (a b : NodeId) → a ≢ b → nat_eq a.0 b.0 ≡ false
-same_false a b e = no a.0 b.0 (λ x. e (same_node a b x))
-
-less_or : (a b : ℕ) → (a < b) ⊎ (b ≤ a)
-less_or a b = grind arith
-
-abbrev pub Entry : Type 0
-Entry = NodeId × Kind
-
-pub here_kind : (k : Entry) (kinds : Kinds) (n : NodeId) → k.0 ≡ n → kind_of (k ∷ kinds) n ≡ Some k.1
-here_kind k kinds n e = rw (same_true k.0 n e) refl
-
-pub later_kind : (k : Entry) (kinds : Kinds) (n : NodeId) → k.0 ≢ n → kind_of (k ∷ kinds) n ≡ kind_of kinds n
-later_kind k kinds n e = rw (same_false k.0 n e) refl
 
 pub some_same : {x y : Kind} → Some x ≡ Some y → x ≡ y
 some_same e = cc
@@ -66,19 +38,19 @@ pub null_none : (kinds : Kinds) → RiseFrom 1 kinds → kind_of kinds null ≡ 
 null_none kinds r = below_none 1 kinds null r (omega arith)
 
 -- one more node
-first_kind : (k : Entry) (kinds : Kinds) (n : NodeId) (kind : Kind) → n.0 < k.0.0 → with_kind (k ∷ kinds) n kind ≡ (n, kind) ∷ k ∷ kinds
+pub first_kind : (k : Entry) (kinds : Kinds) (n : NodeId) (kind : Kind) → n.0 < k.0.0 → with_kind (k ∷ kinds) n kind ≡ (n, kind) ∷ k ∷ kinds
 first_kind k kinds n kind l = rw (less n.0 k.0.0 l) refl
 
-next_kind : (k : Entry) (kinds : Kinds) (n : NodeId) (kind : Kind) → k.0.0 ≤ n.0 → with_kind (k ∷ kinds) n kind ≡ k ∷ with_kind kinds n kind
+pub next_kind : (k : Entry) (kinds : Kinds) (n : NodeId) (kind : Kind) → k.0.0 ≤ n.0 → with_kind (k ∷ kinds) n kind ≡ k ∷ with_kind kinds n kind
 next_kind k kinds n kind l = rw (not_less n.0 k.0.0 l) refl
 
-head_differs : (k : Entry) (kinds : Kinds) (n : NodeId) → kind_of (k ∷ kinds) n ≡ None → k.0 ≢ n
+pub head_differs : (k : Entry) (kinds : Kinds) (n : NodeId) → kind_of (k ∷ kinds) n ≡ None → k.0 ≢ n
 head_differs k kinds n a e = let h : Some k.1 ≡ None = sym (here_kind k kinds n e) ∙ a in cc
 
-rest_none : (k : Entry) (kinds : Kinds) (n : NodeId) → kind_of (k ∷ kinds) n ≡ None → kind_of kinds n ≡ None
+pub rest_none : (k : Entry) (kinds : Kinds) (n : NodeId) → kind_of (k ∷ kinds) n ≡ None → kind_of kinds n ≡ None
 rest_none k kinds n a = sym (later_kind k kinds n (head_differs k kinds n a)) ∙ a
 
-above : (a b : ℕ) → b ≤ a → a ≢ b → suc b ≤ a
+pub above : (a b : ℕ) → b ≤ a → a ≢ b → suc b ≤ a
 above a b l n = omega arith
 
 pub rise_with : (low : ℕ) (kinds : Kinds) (n : NodeId) (kind : Kind) → RiseFrom low kinds → low ≤ n.0 → kind_of kinds n ≡ None → RiseFrom low (with_kind kinds n kind)

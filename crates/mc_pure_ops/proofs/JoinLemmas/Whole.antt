@@ -16,10 +16,10 @@ use Rattle.mc_pure_ops.specs.Join.Joint.{Pairs, Sides, StandsFor, AreJoinable, A
 use Rattle.mc_pure_ops.specs.Join.Gains.{Gains}
 use Rattle.mc_pure_ops.specs.Join.Parts.{node, EqualityAt, DifferenceAt, ListedAt, RangeAt, Below, AtPlace, HasAll}
 use Rattle.mc_pure_ops.specs.Join.Parts as parts
-use Rattle.mc_pure_ops.proofs.JoinLemmas.Sorted.{same_node}
 use Rattle.mc_pure_ops.proofs.JoinLemmas.Follow.{eq_as, ne_as, self_zero}
 use Rattle.mc_pure_ops.proofs.JoinLemmas.Pairing.{Pair, pair_same}
 use Rattle.mc_pure_ops.proofs.JoinLemmas.Gaining.{gains_both}
+use Rattle.mc_pure.proofs.Changing.{same_node}
 
 -- pairs the other way round
 turned_to : (ps : Pairs) (i : ℕ) (l r : NodeId) → slice_get ps i ≡ Some (l, r) → slice_get (parts.turned ps) i ≡ Some (r, l)

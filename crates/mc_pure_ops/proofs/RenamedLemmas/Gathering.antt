@@ -14,20 +14,16 @@ use Rattle.mc_pure.specs.Nodes.{with_kind}
 use Rattle.mc_pure.specs.Known.{IsFit}
 use Rattle.mc_pure_ops.specs.Renamed.Renamed.{AreImageKinds, IsOneKind, IsPut, HasImages, HasFirst, HasNoOther, Gathers, IsBelow}
 use Rattle.mc_pure_ops.specs.Renamed.Laws.{ImagesAreOneList, RenamedFits}
-use Rattle.mc_pure_ops.proofs.RenamedLemmas.Sorted.{same_node, decide, not_none, some_same, rise_with, with_here, with_other, node_place, one_list}
+use Rattle.mc_pure_ops.proofs.RenamedLemmas.Sorted.{node_place, one_list}
+use Rattle.mc_pure.proofs.Changing.{same_node}
+use Rattle.mc_pure.proofs.Placing.{no_kind}
+use Rattle.mc_pure_ops.proofs.JoinLemmas.Sorted.{decide, not_none, rise_with, some_same, with_here, with_other}
 
 positive : (n : NodeId) → n ≢ null → 1 ≤ n.0
 positive n h = at n.0 (λ e. h (same_node n null e))
   where
     at : (a : ℕ) → a ≢ 0 → 1 ≤ a
     at a d = omega arith
-
-no_kind : (kinds : Kinds) (n : NodeId) → (IsNode kinds n → ⊥) → kind_of kinds n ≡ None
-no_kind kinds n h = cases (kind_of kinds n) refl
-  where
-    cases : (k : Option Kind) → kind_of kinds n ≡ k → kind_of kinds n ≡ None
-    cases None e = e
-    cases (Some k) e = absurd (h (k, inr e))
 
 not_null : (kinds : Kinds) (n : NodeId) → (IsNode kinds n → ⊥) → n ≢ null
 not_null kinds n h e = h (Int, inl e)

@@ -11,8 +11,10 @@ use Rattle.mc_pure.specs.Nodes.{RiseFrom}
 use Rattle.mc_pure.specs.Whole.{kinds_without}
 use Rattle.mc_pure_ops.specs.Renaming.Images.{Images, image, image_of, image_or, IsWith, HasOther}
 use Rattle.mc_pure_ops.specs.Renamed.Renamed.{AreImageKinds, IsOneKind, IsImage, IsRenamed, instead, merged}
-use Rattle.mc_pure_ops.proofs.RenamedLemmas.Sorted.{number, decide, same_true, same_false, some_same, not_none, null_none, rise_without, without_here, without_other}
+use Rattle.mc_pure_ops.proofs.RenamedLemmas.Sorted.{rise_without, without_here, without_other}
 use Rattle.mc_pure_ops.proofs.RenamedLemmas.Gathering.{images_are_one_list}
+use Rattle.mc_pure.proofs.Changing.{number, same_false, same_true}
+use Rattle.mc_pure_ops.proofs.JoinLemmas.Sorted.{decide, not_none, null_none, some_same}
 
 -- the renaming of one node
 pub with_one : (old new : Images) (keep gone : NodeId) (added : Bool) → old ≡ [] → (added ≡ true → IsWith old gone keep new) → (added ≡ false) ↔ HasOther old gone keep → IsWith [] gone keep new

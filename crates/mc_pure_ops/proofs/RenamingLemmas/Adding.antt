@@ -4,7 +4,8 @@ use Rattle.std.proofs.lemmas.Option.{slice_get_within, slice_get-get_or}
 use Rattle.std.specs.List.{insert}
 use Rattle.mc_base.specs.declared.ids.NodeId.{NodeId}
 use Rattle.mc_pure_ops.specs.Renaming.Images.{Images, image_of, image_after, RiseFrom, IsPlace, HasOther, IsWith, IsComposed, IsRestricted, IsInjective, IsInverse}
-use Rattle.mc_pure_ops.proofs.RenamingLemmas.Looking.{Pair, number, same_node, decide, same_true, same_false, here_image, later_image, image_there, place_of_image}
+use Rattle.mc_pure_ops.proofs.RenamingLemmas.Looking.{Pair, decide, here_image, later_image, image_there, place_of_image}
+use Rattle.mc_pure.proofs.Changing.{number, same_false, same_node, same_true}
 
 -- with an image more
 pub with_here : (old : Images) (from to n : NodeId) → n ≡ from → (if n.0 == from.0 then Some to else image_of old n) ≡ Some to

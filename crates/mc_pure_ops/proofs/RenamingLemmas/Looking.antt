@@ -1,33 +1,15 @@
 -- Looking images up.
-use Rattle.std.proofs.Common.{◌≡◌, ◌≢◌, ℕ, zero, suc, ◌<◌, ◌≤◌, ◌+◌, ◌⊎◌, [], ◌∷◌, Option, Some, None, slice_get, get_or, length, nat_eq, true, false, refl, sym, ◌∙◌, ap, subst, inl, inr, arith}
-use Rattle.std.proofs.lemmas.Bool.Decides.{nat_tests}
+use Rattle.std.proofs.Common.{◌≡◌, ◌≢◌, ℕ, zero, suc, ◌<◌, ◌≤◌, ◌+◌, ◌⊎◌, [], ◌∷◌, Option, Some, None, slice_get, get_or, length, refl, sym, ◌∙◌, ap, subst, inl, inr, arith}
 use Rattle.std.proofs.lemmas.Option.{slice_get_within, slice_get-get_or}
 use Rattle.mc_base.specs.declared.ids.NodeId.{NodeId}
 use Rattle.mc_pure_ops.specs.Renaming.Images.{Images, image_of, RiseFrom, DoRise, IsPlace}
-
-pub same_node : (a b : NodeId) → a.0 ≡ b.0 → a ≡ b
-same_node a b e = ap (λ (n : ℕ). let x : NodeId = record { 0 = n } in x) e
-
-pub number : {a b : NodeId} → a ≡ b → a.0 ≡ b.0
-number e = ap (λ (n : NodeId). n.0) e
+use Rattle.mc_pure.proofs.Changing.{no, number, same_false, same_node, same_true}
 
 same : (a b : ℕ) → (a ≡ b) ⊎ (a ≢ b)
 same a b = grind arith
 
-yes : (a b : ℕ) → a ≡ b → nat_eq a b ≡ true
-yes a b e = grind (arith, nat_tests)
-
-no : (a b : ℕ) → a ≢ b → nat_eq a b ≡ false
-no a b e = grind (arith, nat_tests)
-
 pub decide : (a b : NodeId) → (a ≡ b) ⊎ (a ≢ b)
 decide a b = elim (same a.0 b.0) [ inl x ↦ inl (same_node a b x) | inr x ↦ inr (λ e. x (number e)) ]
-
-pub same_true : (a b : NodeId) → a ≡ b → nat_eq a.0 b.0 ≡ true
-same_true a b e = yes a.0 b.0 (number e)
-
-pub same_false : (a b : NodeId) → a ≢ b → nat_eq a.0 b.0 ≡ false
-same_false a b e = no a.0 b.0 (λ x. e (same_node a b x))
 
 abbrev pub Pair : Type 0
 Pair = NodeId × NodeId

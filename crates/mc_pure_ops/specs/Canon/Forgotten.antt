@@ -15,7 +15,7 @@ use Rattle.mc_pure_ops.specs.Canon.Left.{IsHeir, LeavesOut}
 abbrev pub without_node : Pure → NodeId → List Atom → Pure
 without_node p lost atoms = record { kinds = kinds_without p.kinds lost; written = atoms; starts = [] }
 
--- the atoms derive of the other nodes, without blocks, exactly what was derived of them, and are listed canonically
+-- the atoms derive of the other nodes, without blocks, exactly what was entailed of them, and are listed canonically
 pub record IsForgotten (p : Pure) (lost : NodeId) (atoms : List Atom) : Type 0 where
   pub same : (f : Atom) → Follows (without_node p lost atoms) f ↔ (Follows p f × LeavesOut (Some lost) f)
   pub listed : IsWholeList (without_node p lost atoms) atoms

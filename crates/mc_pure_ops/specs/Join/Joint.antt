@@ -63,7 +63,7 @@ pub record IsJointRange (kind : Kind) (round : ℕ) (thresholds : List ℤ) (l h
   pub hull : (IsLate kind round → ⊥) → (lo ≡ int_min l m) × (hi ≡ int_max h k)
   pub wide : IsLate kind round → WidensDown thresholds l (int_min l m) lo × WidensUp thresholds h (int_max h k) hi
 
--- an atom of a join: an equality derived on both sides; the range of a pair; a disequality derived on both sides
+-- an atom of a join: an equality entailed on both sides; the range of a pair; a disequality entailed on both sides
 -- that has offset 0 or is on the canonical list of one
 abbrev pub IsOfBoth : Sides → Kinds → Atom → Type 0
 IsOfBoth s kinds (Eq a b c) =

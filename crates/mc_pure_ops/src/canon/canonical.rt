@@ -6,11 +6,9 @@ ghost use Rattle.mc_pure.specs.Canonical.{IsCanonical};
 
 use crate::canon::gaps::differences;
 use crate::canon::left::{equalities, ranges, whole};
-use mc_base::{Atom, NoMemory, NodeId};
+use mc_base::{Atom, NULL, NoMemory};
 use mc_pure::Pure;
 use std::alloc::Global;
-
-const NULL: NodeId = NodeId(0);
 
 /// That node 0 differs from itself.
 pub fn contradiction(alloc: Global) -> Result<Vec<Atom>, NoMemory>
@@ -22,7 +20,7 @@ pub fn contradiction(alloc: Global) -> Result<Vec<Atom>, NoMemory>
 }
 
 /// The canonical list of what is known: two states that are not false have one list exactly where the same ranges, the
-/// same equalities and the same disequalities between classes are derived.
+/// same equalities and the same disequalities between classes are entailed.
 pub fn canon(alloc: Global, pure: &Pure) -> Result<Vec<Atom>, NoMemory>
     ensures { IfOk result (λ list. IsCanonical pure.now list.items) }
 {

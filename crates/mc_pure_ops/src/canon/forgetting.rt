@@ -74,8 +74,8 @@ fn without(pure: &Pure, lost: NodeId) -> Left
     }
 }
 
-/// What is to be written when a node is forgotten: the canonical list of what was derived of the other nodes, where no
-/// block is known, and behind it the disequalities inside one class.
+/// What is to be written when a node is forgotten: the canonical list of what was entailed of the other nodes, where no
+/// block is known, and after it the disequalities inside one class.
 pub fn forget(alloc: Global, pure: &Pure, lost: NodeId) -> Result<Vec<Atom>, NoMemory>
     requires there { IsNode pure.now.kinds lost }
     requires not_null { lost ≢ null }

@@ -1,4 +1,4 @@
-// Disequalities that are derived on both sides.
+// Disequalities that are entailed on both sides.
 ghost use Rattle.std.specs.Prelude.{◌≡◌, ◌<◌, ℕ, IfOk, length};
 ghost use Rattle.mc_base.specs.declared.plain.Atom.TheVariants.{Ne};
 ghost use Rattle.mc_pure.specs.Derived.{IsFalse};

@@ -1,4 +1,4 @@
-// Equalities that are derived on both sides.
+// Equalities that are entailed on both sides.
 ghost use Rattle.std.specs.Prelude.{◌≡◌, ◌-ℤ◌, ◌<◌, IfOk, MatchOption, length};
 ghost use Rattle.mc_base.specs.declared.plain.Atom.TheVariants.{Eq};
 ghost use Rattle.mc_pure.specs.Pure.{IsNode, IsOffset};

@@ -1,5 +1,5 @@
 -- The example's definitions fit their structs, and its segment stands in a well-made state.
-use Rattle.std.proofs.Common.{◌≡◌, ◌<◌, ℕ, zero, suc, List, [], ◌∷◌, length, get_or, refl, sym, subst, arith, inr}
+use Rattle.std.proofs.Common.{◌≡◌, [], ◌∷◌, refl, sym, subst, arith, inr}
 use Rattle.std.specs.Prelude.{All}
 use Rattle.mc_base.specs.declared.plain.Kind.TheVariants.{Ptr}
 use Rattle.mc_flow.specs.declared.defs.rules.Def.{Def}
@@ -8,17 +8,7 @@ use Rattle.mc_flow.specs.Defs.Conditions.{CallFits, RuleFitsStructs, DefFits, De
 use Rattle.mc_state.specs.Fits.{IsWellMade}
 use Rattle.mc_rules_logic.specs.Back.Examples.{structs, dlls, dll_def, same_def, null_rule, node_rule, same_rule, dll_segment}
 use Rattle.mc_rules_logic.proofs.BackLemmas.ExampleStates.{bounded_segment}
-
-module _ {A : Type 0} where
-  all_nil : (P : A → Type 0) → All P []
-  all_nil P = λ k d lt. absurd (omega arith)
-
-  all_cons : (P : A → Type 0) (x : A) (xs : List A) → P x → All P xs → All P (x ∷ xs)
-  all_cons P x xs p a = λ k d lt. go P x xs p a k d lt
-    where
-      go : (P : A → Type 0) (x : A) (xs : List A) → P x → All P xs → (k : ℕ) (d : A) → k < length (x ∷ xs) → P (get_or (x ∷ xs) k d)
-      go P x xs p a zero d lt = p
-      go P x xs p a (suc k) d lt = a k d (omega arith)
+use Rattle.mc_flow.proofs.DefsLemmas.SomeStructs.{all_cons, all_nil}
 
 null_fits : RuleFitsStructs structs dlls (Ptr ∷ []) null_rule
 null_fits =

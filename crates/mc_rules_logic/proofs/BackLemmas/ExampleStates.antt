@@ -135,12 +135,12 @@ bounded_segment =
     }
 
 -- ---- the rule without its empty case
-joins_some : (x r : Option Block) (b : Block) → Joins x (Some b) r → x ≡ Some b
+pub joins_some : (x r : Option Block) (b : Block) → Joins x (Some b) r → x ≡ Some b
 joins_some x None b j = j
 joins_some x (Some c) b j = absurd j
 
 -- what a part holds, the whole holds
-inside : (whole left right : Region) (at : ℕ) (b : Block) → Split whole left right → left at ≡ Some b → whole at ≡ Some b
+pub inside : (whole left right : Region) (at : ℕ) (b : Block) → Split whole left right → left at ≡ Some b → whole at ≡ Some b
 inside whole left right at b split e = joins_some (whole at) (right at) b (subst (λ l. Joins (whole at) l (right at)) e (split.joins at))
 
 -- and what the other part holds, too
@@ -164,7 +164,7 @@ no_block_there v region none st =
     let nothing = none.none at in
     cc (there, nothing)
 
-one_of_one : (s t : State) (place : ℕ) → slice_get (s ∷ []) place ≡ Some t → s ≡ t
+pub one_of_one : (s t : State) (place : ℕ) → slice_get (s ∷ []) place ≡ Some t → s ≡ t
 one_of_one s t zero e = cc
 one_of_one s t (suc place) e = absurd (cc e)
 

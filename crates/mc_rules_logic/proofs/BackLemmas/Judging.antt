@@ -1,12 +1,12 @@
 -- The rule that unfolds a segment from its end is judged by its instances, and gives one list of successors.
-use Rattle.std.proofs.Common.{◌≡◌, ◌⊎◌, ◌+◌, ℕ, zero, suc, List, [], ◌∷◌, Bool, true, false, ◌&&◌, Option, Some, None, slice_get, refl, ap, sym, ◌∙◌, inl, inr, arith}
-use Rattle.std.specs.Prelude.{◌||◌, not, Ok}
+use Rattle.std.proofs.Common.{◌≡◌, ◌+◌, ℕ, zero, suc, List, [], ◌∷◌, Bool, true, ◌&&◌, Option, Some, None, slice_get, refl, ap, sym, ◌∙◌, inl, inr, arith}
+use Rattle.std.specs.Prelude.{not, Ok}
 use Rattle.mc_base.specs.declared.ids.EdgeId.{EdgeId}
 use Rattle.mc_base.specs.declared.ids.NodeId.{NodeId}
 use Rattle.mc_base.specs.declared.ids.PredId.{PredId}
 use Rattle.mc_flow.specs.declared.defs.rules.Def.{Def}
 use Rattle.mc_state.specs.declared.graph.edge.Edge.{Edge}
-use Rattle.mc_state.specs.declared.graph.edge.Edge.TheVariants.{Block, Ind, Seg}
+use Rattle.mc_state.specs.declared.graph.edge.Edge.TheVariants.{Seg}
 use Rattle.mc_state.specs.Graph.Graph.{edge_with}
 use Rattle.mc_state.specs.Back.{IsBackPosition, is_back}
 use Rattle.mc_state.specs.Known.{Test, Tells, is_false, equal}
@@ -21,26 +21,7 @@ use Rattle.mc_rules_logic.specs.Unfold.Judges.{rules_in, rules_of}
 use Rattle.mc_rules_logic.specs.Back.Judges.{ends_back_at, is_reached_back, unfolding_back}
 use Rattle.mc_rules_logic.specs.Back.Laws.{BackIsJudged, BackIsDetermined}
 use Rattle.mc_rules_logic.specs.Back.Unfolded.{back_successors, UnfoldsBack}
-
--- an edge with the parts of a Seg is that Seg
-seg_is : (o : Option Edge) (g : SegParts) → seg_of o ≡ Some g → o ≡ Some (Seg g.at g.args g.pred g.stop g.ends)
-seg_is None g e = absurd (cc e)
-seg_is (Some (Block at shape fields)) g e = absurd (cc e)
-seg_is (Some (Ind at pred args)) g e = absurd (cc e)
-seg_is (Some (Seg at args pred stop ends)) g e =
-    let same : ◌≡◌ {A = SegParts} (record { at = at; args = args; pred = pred; stop = stop; ends = ends }) g = cc e in
-    ap (λ (g : SegParts). Some (Seg g.at g.args g.pred g.stop g.ends)) same
-
-or_true : (a b : Bool) → (a || b) ≡ true → (a ≡ true) ⊎ (b ≡ true)
-or_true true b e = inl refl
-or_true false b e = inr e
-
-or_left : (a b : Bool) → a ≡ true → (a || b) ≡ true
-or_left a b e = ap (λ x. x || b) e
-
-or_right : (a b : Bool) → b ≡ true → (a || b) ≡ true
-or_right true b e = refl
-or_right false b e = e
+use Rattle.mc_rules_logic.proofs.UnfoldLemmas.Judging.{or_left, or_right, or_true, seg_is}
 
 some_test : {A : Type 0} (test : A → Bool) (o : Option A) → on_some test o ≡ true → (a : A) × (o ≡ Some a) × (test a ≡ true)
 some_test test None e = absurd (cc e)

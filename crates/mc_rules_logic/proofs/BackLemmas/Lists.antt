@@ -5,24 +5,9 @@ use Rattle.mc_flow.specs.Heap.Heap.{Region}
 use Rattle.mc_flow.specs.Heap.Parts.{IsEmpty, Star, StarAt}
 use Rattle.mc_flow.specs.Heap.PartLaws.{SplitDropsEmpty}
 use Rattle.std.proofs.Common.{sym, subst}
+use Rattle.mc_state.proofs.Lists.{all_append}
 
 module _ {X : Type 0} where
-  pub all_append : (P : X → Type 0) (xs ys : List X) → AllByRecursion P xs → AllByRecursion P ys → AllByRecursion P (xs ++ ys)
-  all_append P [] ys a b = b
-  all_append P (x ∷ xs) ys a b = (a.0, all_append P xs ys a.1 b)
-
-  pub all_left : (P : X → Type 0) (xs ys : List X) → AllByRecursion P (xs ++ ys) → AllByRecursion P xs
-  all_left P [] ys a = tt
-  all_left P (x ∷ xs) ys a = (a.0, all_left P xs ys a.1)
-
-  pub all_right : (P : X → Type 0) (xs ys : List X) → AllByRecursion P (xs ++ ys) → AllByRecursion P ys
-  all_right P [] ys a = a
-  all_right P (x ∷ xs) ys a = all_right P xs ys a.1
-
-  pub all_map : (P Q : X → Type 0) → ((x : X) → P x → Q x) → (xs : List X) → AllByRecursion P xs → AllByRecursion Q xs
-  all_map P Q f [] a = tt
-  all_map P Q f (x ∷ xs) a = (f x a.0, all_map P Q f xs a.1)
-
   pub all_take : (P : X → Type 0) (n : ℕ) (xs : List X) → AllByRecursion P xs → AllByRecursion P (take n xs)
   all_take P zero xs a = tt
   all_take P (suc n) [] a = tt

@@ -25,7 +25,8 @@ use Rattle.mc_rules_logic.specs.Unfold.Unfolded.{own_places}
 use Rattle.mc_rules_logic.specs.Unfold.WellMade.{EdgeFits, NodesKeepWellMade, EdgesKeepWellMade, AtomsKeepWellMade, FewerKeepWellMade, EdgeOfFitting, EmptiedIsWellMade, RuleIsMade, RulesAreMade, EqualsAreFormed}
 use Rattle.mc_rules_logic.specs.Back.Laws.{BackMakesWellMade}
 use Rattle.mc_rules_logic.specs.Back.Unfolded.{new_nodes, body_behind, call_is_end, atoms_behind, unfolded_back}
-use Rattle.mc_rules_logic.proofs.BackLemmas.Lists.{all_append, all_remove, one_of_all, all_pieces, all_images}
+use Rattle.mc_rules_logic.proofs.BackLemmas.Lists.{all_remove, one_of_all, all_pieces, all_images}
+use Rattle.mc_state.proofs.Lists.{all_append}
 
 -- what the proofs of this file rest on
 pub record MadeLaws : Type 0 where
@@ -41,7 +42,7 @@ pub record MadeLaws : Type 0 where
   pub equal : EqualsAreFormed
   pub own : OwnPlacesAreOwn
 
-have_more : (small big : Kinds) → ((kind : Kind) (n : NodeId) → HasKind small kind n → HasKind big kind n) → (ks : List Kind) (ns : List NodeId) → HaveKinds small ks ns → HaveKinds big ks ns
+pub have_more : (small big : Kinds) → ((kind : Kind) (n : NodeId) → HasKind small kind n → HasKind big kind n) → (ks : List Kind) (ns : List NodeId) → HaveKinds small ks ns → HaveKinds big ks ns
 have_more small big more [] [] h = tt
 have_more small big more [] (n ∷ ns) h = absurd h
 have_more small big more (k ∷ ks) [] h = absurd h
@@ -55,13 +56,13 @@ module _ (kinds : Kinds) where
   have_take (suc n) (k ∷ ks) [] h = absurd h
   have_take (suc n) (k ∷ ks) (x ∷ ns) h = (h.0, have_take n ks ns h.1)
 
-  have_count : (ks : List Kind) (ns : List NodeId) → HaveKinds kinds ks ns → length ns ≡ length ks
+  pub have_count : (ks : List Kind) (ns : List NodeId) → HaveKinds kinds ks ns → length ns ≡ length ks
   have_count [] [] h = refl
   have_count [] (n ∷ ns) h = absurd h
   have_count (k ∷ ks) [] h = absurd h
   have_count (k ∷ ks) (n ∷ ns) h = ap suc (have_count ks ns h.1)
 
-  -- the first node and those behind it, of the kinds of `this` and of the parameters
+  -- the first node and those after it, of the kinds of `this` and of the parameters
   front_kinds : (params : List Kind) (ns : List NodeId) → HaveKinds kinds (Ptr ∷ params) (take (suc (length params)) ns)
       → HasKind kinds Ptr (node_of ns 0) × HaveKinds kinds params (take (length params) (drop 1 ns))
   front_kinds params [] h = absurd h

@@ -38,7 +38,8 @@ use Rattle.mc_rules_logic.specs.Unfold.Unfolded.{emptied, equal_atoms, own_place
 use Rattle.mc_rules_logic.specs.Back.Ends.{SegEnds}
 use Rattle.mc_rules_logic.specs.Back.Laws.{LawOfBack}
 use Rattle.mc_rules_logic.specs.Back.Unfolded.{new_nodes, body_behind, call_is_end, atoms_behind, unfolded_back, back_successors}
-use Rattle.mc_rules_logic.proofs.BackLemmas.Lists.{all_append, all_left, all_right, all_map, all_take, all_drop, image_at, in_pieces, all_pieces, all_images, star_at_get, star_without}
+use Rattle.mc_rules_logic.proofs.BackLemmas.Lists.{all_take, all_drop, image_at, in_pieces, all_pieces, all_images, star_at_get, star_without}
+use Rattle.mc_state.proofs.Lists.{all_append, all_left, all_map, all_right}
 
 -- what the rule rests on
 pub record BackLaws : Type 0 where

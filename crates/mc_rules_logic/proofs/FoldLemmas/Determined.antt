@@ -1,9 +1,7 @@
 -- A rule gives one list of successors at most.
-use Rattle.std.proofs.Common.{◌≡◌, ℕ, Option, Some, List, [], ◌∷◌, ◌++◌, length, map, slice_get, sym, ◌∙◌, ap, ap₂}
+use Rattle.std.proofs.Common.{◌≡◌, Some, List, [], ◌∷◌, ◌++◌, length, map, slice_get, sym, ◌∙◌, ap, ap₂}
 use Rattle.std.specs.Prelude.{option_to_list, remove}
 use Rattle.mc_base.specs.declared.ids.EdgeId.{EdgeId}
-use Rattle.mc_base.specs.declared.ids.NodeId.{NodeId}
-use Rattle.mc_base.specs.declared.ids.PredId.{PredId}
 use Rattle.mc_flow.specs.declared.defs.rules.Call.{Call}
 use Rattle.mc_flow.specs.declared.defs.rules.Def.{Def}
 use Rattle.mc_flow.specs.declared.defs.rules.Rule.{Rule}
@@ -11,8 +9,9 @@ use Rattle.mc_flow.specs.Defs.Instances.{node_of}
 use Rattle.mc_state.specs.declared.graph.edge.Edge.{Edge}
 use Rattle.mc_state.specs.declared.graph.edge.Edge.TheVariants.{Ind, Seg}
 use Rattle.mc_state.specs.Graph.Graph.{Edges, Picks, without}
+use Rattle.mc_state.specs.declared.line.FoldInd.{FoldInd}
 use Rattle.mc_state.specs.State.{State}
-use Rattle.mc_rules_logic.specs.Fold.Folded.{folded, Matches}
+use Rattle.mc_rules_logic.specs.Fold.Folded.{as_ind, folded, Matches}
 use Rattle.mc_rules_logic.specs.Fold.Laws.{FoldIndIsDetermined, FoldSegIsDetermined, CloseSegIsDetermined, JoinSegsIsDetermined, EmptySegIsDetermined, SpareIsDetermined, MergeIsDetermined, DropIsDetermined}
 use Rattle.mc_rules_logic.proofs.FoldLemmas.Lists.{same_front}
 
@@ -31,16 +30,16 @@ folded_one : (s : State) (left more : Edges) (new other : Edge) (next after : Li
 folded_one s left more new other next after i j same edges =
     i ∙ ap (λ es. folded s es new ∷ []) same ∙ ap (λ e. folded s more e ∷ []) edges ∙ sym j
 
-module _ (defs : List Def) (s : State) (pred : PredId) (rule : ℕ) (names : List NodeId) (block : Option EdgeId) (edges : List EdgeId) (calls : Rule → List Call) (m n : Matches defs s pred rule names block edges calls) where
+module _ (defs : List Def) (s : State) (fold : FoldInd) (calls : Rule → List Call) (m n : Matches defs s fold calls) where
   one_left : m.left ≡ n.left
-  one_left = (picks_one (option_to_list block ++ edges) s.graph.edges (m.blocks ++ m.inds) (n.blocks ++ n.inds) m.left n.left m.picks n.picks).1
+  one_left = (picks_one (option_to_list fold.block ++ fold.edges) s.graph.edges (m.blocks ++ m.inds) (n.blocks ++ n.inds) m.left n.left m.picks n.picks).1
 
   one_def : m.def ≡ n.def
   one_def = cc (m.defined, n.defined)
 
   one_rule : m.by ≡ n.by
   one_rule =
-      let other : slice_get n.def.rules rule ≡ Some m.by = ap (λ d. slice_get d.rules rule) (sym one_def) ∙ m.listed in
+      let other : slice_get n.def.rules fold.rule ≡ Some m.by = ap (λ d. slice_get d.rules fold.rule) (sym one_def) ∙ m.listed in
       cc (other, n.listed)
 
   one_start : m.this ≡ n.this
@@ -54,25 +53,25 @@ module _ (defs : List Def) (s : State) (pred : PredId) (rule : ℕ) (names : Lis
       same_front m.args n.args m.others n.others count rest
 
 pub fold_ind_determined : FoldIndIsDetermined
-fold_ind_determined defs pred rule names block edges s next other i j =
+fold_ind_determined defs fold s next other i j =
     let calls : Rule → List Call = λ r. r.calls in
-    let start = one_start defs s pred rule names block edges calls i.body j.body in
-    let args = one_args defs s pred rule names block edges calls i.body j.body in
-    folded_one s i.body.left j.body.left (Ind i.body.this pred i.body.args) (Ind j.body.this pred j.body.args) next other i.gives j.gives (one_left defs s pred rule names block edges calls i.body j.body)
-    (ap₂ (λ n ns. Ind n pred ns) start args)
+    let start = one_start defs s fold calls i.body j.body in
+    let args = one_args defs s fold calls i.body j.body in
+    folded_one s i.body.left j.body.left (Ind i.body.this fold.pred i.body.args) (Ind j.body.this fold.pred j.body.args) next other i.gives j.gives (one_left defs s fold calls i.body j.body)
+    (ap₂ (λ n ns. Ind n fold.pred ns) start args)
 
 pub fold_seg_determined : FoldSegIsDetermined
-fold_seg_determined defs pred rule names block edges call s next other i j =
-    let calls : Rule → List Call = λ r. remove r.calls call in
-    let start = one_start defs s pred rule names (Some block) edges calls i.body j.body in
-    let args = one_args defs s pred rule names (Some block) edges calls i.body j.body in
-    let by = one_rule defs s pred rule names (Some block) edges calls i.body j.body in
-    let there : slice_get j.body.by.calls call ≡ Some i.open_call = ap (λ r. slice_get r.calls call) (sym by) ∙ i.called in
+fold_seg_determined defs fold s next other i j =
+    let calls : Rule → List Call = λ r. remove r.calls fold.call in
+    let start = one_start defs s (as_ind fold) calls i.body j.body in
+    let args = one_args defs s (as_ind fold) calls i.body j.body in
+    let by = one_rule defs s (as_ind fold) calls i.body j.body in
+    let there : slice_get j.body.by.calls fold.call ≡ Some i.open_call = ap (λ r. slice_get r.calls fold.call) (sym by) ∙ i.called in
     let same : i.open_call ≡ j.open_call = cc (there, j.called) in
-    folded_one s i.body.left j.body.left (Seg i.body.this i.body.args pred (node_of names i.open_call.at) (map (node_of names) i.open_call.args))
-    (Seg j.body.this j.body.args pred (node_of names j.open_call.at) (map (node_of names) j.open_call.args)) next other i.gives j.gives (one_left defs s pred rule names (Some block) edges calls i.body j.body)
-    (ap₂ (λ n ns. Seg n ns pred (node_of names i.open_call.at) (map (node_of names) i.open_call.args)) start args
-    ∙ ap (λ c. Seg j.body.this j.body.args pred (node_of names c.at) (map (node_of names) c.args)) same)
+    folded_one s i.body.left j.body.left (Seg i.body.this i.body.args fold.pred (node_of fold.names i.open_call.at) (map (node_of fold.names) i.open_call.args))
+    (Seg j.body.this j.body.args fold.pred (node_of fold.names j.open_call.at) (map (node_of fold.names) j.open_call.args)) next other i.gives j.gives (one_left defs s (as_ind fold) calls i.body j.body)
+    (ap₂ (λ n ns. Seg n ns fold.pred (node_of fold.names i.open_call.at) (map (node_of fold.names) i.open_call.args)) start args
+    ∙ ap (λ c. Seg j.body.this j.body.args fold.pred (node_of fold.names c.at) (map (node_of fold.names) c.args)) same)
 
 pub close_seg_determined : CloseSegIsDetermined
 close_seg_determined first second s next other i j =

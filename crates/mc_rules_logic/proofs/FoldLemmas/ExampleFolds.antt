@@ -21,7 +21,7 @@ use Rattle.mc_state.specs.Laws.{NoneStandsForFalse, EqualNodesAreOne}
 use Rattle.mc_state.specs.Stands.{StandsBy}
 use Rattle.mc_state.specs.State.{State}
 use Rattle.mc_rules_logic.specs.Fold.Examples.{edge, valued, cell_folded, cell_as_segment, segment_closed, two_segments, segments_joined, pointer, with_segment, other_length}
-use Rattle.mc_rules_logic.specs.Fold.Folded.{FoldsInd, FoldsSeg, ClosesSeg, JoinsSegs, MakesEmptySeg}
+use Rattle.mc_rules_logic.specs.Fold.Folded.{FoldsInd, FoldsSeg, ClosesSeg, JoinsSegs, MakesEmptySeg, ind_fold, seg_fold}
 use Rattle.mc_rules_logic.proofs.FoldLemmas.Parts.{PartLaws, nowhere-IsEmpty, none_left, none_right}
 
 -- a node that is there is equal to itself
@@ -34,7 +34,7 @@ module _ (not_false : NoneStandsForFalse) where
   cell_sound addresses st wrong = not_false defs [] (blocks two_cells) cell_and_list addresses (at_seven, st) wrong
 
   module _ (addresses : IsAtAddresses (blocks two_cells)) (st : StandsBy defs at_seven [] (blocks two_cells) cell_and_list) where
-    pub cell_folds : FoldsInd defs list_id 1 (node 1 ∷ node 2 ∷ node 3 ∷ []) (Some (edge 0)) (edge 1 ∷ []) cell_and_list (cell_folded ∷ [])
+    pub cell_folds : FoldsInd defs (ind_fold list_id 1 (node 1 ∷ node 2 ∷ node 3 ∷ []) (Some (edge 0)) (edge 1 ∷ [])) cell_and_list (cell_folded ∷ [])
     cell_folds =
         record {
           consistent = cell_sound addresses st;
@@ -61,7 +61,7 @@ module _ (not_false : NoneStandsForFalse) where
           gives = refl;
         }
 
-    pub cell_folds_open : FoldsSeg defs list_id 1 (node 1 ∷ node 2 ∷ node 3 ∷ []) (edge 0) [] 0 cell_and_list (cell_as_segment ∷ [])
+    pub cell_folds_open : FoldsSeg defs (seg_fold list_id 1 (node 1 ∷ node 2 ∷ node 3 ∷ []) (edge 0) [] 0) cell_and_list (cell_as_segment ∷ [])
     cell_folds_open =
         record {
           consistent = cell_sound addresses st;

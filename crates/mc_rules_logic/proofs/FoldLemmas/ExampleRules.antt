@@ -18,7 +18,7 @@ use Rattle.mc_state.specs.CoverExamples.{cell_and_length, fork_and_tree, other_l
 use Rattle.mc_state.specs.Laws.{NoneStandsForFalse}
 use Rattle.mc_state.specs.Stands.{StandsBy}
 use Rattle.mc_rules_logic.specs.Fold.Examples.{edge, valued, length_folded, fork_as_segment, second_fork}
-use Rattle.mc_rules_logic.specs.Fold.Folded.{FoldsInd, FoldsSeg}
+use Rattle.mc_rules_logic.specs.Fold.Folded.{FoldsInd, FoldsSeg, ind_fold, seg_fold}
 use Rattle.mc_rules_logic.proofs.FoldLemmas.ExampleFolds.{itself}
 use Rattle.mc_rules_logic.proofs.FoldLemmas.Parts.{PartLaws, nowhere-IsEmpty, none_left, none_right}
 use Rattle.mc_rules_logic.proofs.FoldLemmas.SmallHeaps.{block_alone, block_before, empty_list, second_tree, second_length}
@@ -88,7 +88,7 @@ fork_addresses keeps none =
 
 module _ (not_false : NoneStandsForFalse) where
   pub length_folds : IsAtAddresses (blocks two_cells) → StandsBy defs (valued (pos 7 ∷ pos 5 ∷ pos 9 ∷ pos 1 ∷ pos 2 ∷ [])) [] (blocks two_cells) cell_and_length
-      → FoldsInd defs lenlist_id 1 (node 1 ∷ node 5 ∷ node 2 ∷ node 3 ∷ node 4 ∷ []) (Some (edge 0)) (edge 1 ∷ []) cell_and_length (length_folded ∷ [])
+      → FoldsInd defs (ind_fold lenlist_id 1 (node 1 ∷ node 5 ∷ node 2 ∷ node 3 ∷ node 4 ∷ []) (Some (edge 0)) (edge 1 ∷ [])) cell_and_length (length_folded ∷ [])
   length_folds addresses st =
       let same = itself cell_and_length in
       record {
@@ -118,7 +118,7 @@ module _ (not_false : NoneStandsForFalse) where
       }
 
   pub fork_folds : IsAtAddresses (blocks two_forks) → StandsBy defs (valued (pos 7 ∷ pos 9 ∷ [])) [] (blocks two_forks) fork_and_tree
-      → FoldsSeg defs tree_id 1 (node 1 ∷ node 2 ∷ node 3 ∷ []) (edge 1) (edge 2 ∷ []) 1 fork_and_tree (fork_as_segment ∷ [])
+      → FoldsSeg defs (seg_fold tree_id 1 (node 1 ∷ node 2 ∷ node 3 ∷ []) (edge 1) (edge 2 ∷ []) 1) fork_and_tree (fork_as_segment ∷ [])
   fork_folds addresses st =
       let same = itself fork_and_tree in
       record {

@@ -13,6 +13,8 @@ use Rattle.mc_flow.specs.Defs.Instances.{node_of, atom_of}
 use Rattle.mc_state.specs.declared.graph.edge.Edge.{Edge}
 use Rattle.mc_state.specs.declared.graph.edge.Edge.TheVariants.{Block, Ind, Seg}
 use Rattle.mc_state.specs.Graph.Graph.{Edges, edge_with}
+use Rattle.mc_state.specs.declared.line.FoldInd.{FoldInd}
+use Rattle.mc_state.specs.declared.line.FoldSeg.{FoldSeg}
 use Rattle.mc_state.specs.State.{State}
 use Rattle.mc_state.specs.Facts.{AreAllEqual, Derives}
 use Rattle.mc_state.specs.Fits.{IsBounded}
@@ -24,12 +26,12 @@ use Rattle.mc_state.proofs.ListLemmas.{both_from, both_to}
 use Rattle.mc_state.proofs.Numbered.{need_ok, have_ok, then_ok}
 use Rattle.mc_state.proofs.Tests.{not_false, is_sound, equal_from, equal_to, and_both, and_yes, each_from, each_to}
 use Rattle.mc_state.proofs.Named.{BlockIs, named_from, named_to, looked_count}
-use Rattle.mc_rules_logic.specs.Fold.Folded.{FoldsInd, FoldsSeg, Matches, folded, FieldsMatch, BlockMatches, BlocksMatch, CallMatches, CallsMatch}
+use Rattle.mc_rules_logic.specs.Fold.Folded.{as_ind, FoldsInd, FoldsSeg, Matches, folded, FieldsMatch, BlockMatches, BlocksMatch, CallMatches, CallsMatch}
 use Rattle.mc_rules_logic.specs.Fold.Judges.{with_fold, block_fits, fits_rule, is_named, is_named_too, is_body, body_fits, is_call, is_call_at, knows_rule, matching, arguments, nothing, own_call, folding_ind, folding_seg}
 use Rattle.mc_rules_logic.specs.Fold.JudgedLaws.{FoldIndIsJudged, FoldSegIsJudged}
 use Rattle.mc_rules_logic.proofs.FoldLemmas.Judging.{kinds_from, kinds_to}
 
--- the first names, and what is behind them
+-- the first names, and what is after them
 parts_of : (n : ℕ) (names : List NodeId) → n < length names → names ≡ node_of names 0 ∷ (take n (drop 1 names) ++ drop n (drop 1 names))
 parts_of n [] less = absurd (omega arith)
 parts_of n (x ∷ names) less = ap (λ l. x ∷ l) (sym (take_drop n names)) where
@@ -157,117 +159,117 @@ module _ (know : Test) (s : State) (tells : Tells know s) (names : List NodeId) 
   bodies_to es (Some shape) contents (Some id) (x ∷ y ∷ blocks) p b = absurd p
 
 -- what premises that hold give: the premises of the rules, with the definition and what stays open
-pub record Found {Open : Type 0} (know : Test) (defs : List Def) (s : State) (pred : PredId) (rule : ℕ) (names : List NodeId) (block : Option EdgeId) (ids : List EdgeId) (stays : Rule → Option Open) (calls : Rule → List Call) (m : Def × Open) : Type 0 where
+pub record Found {Open : Type 0} (know : Test) (defs : List Def) (s : State) (fold : FoldInd) (stays : Rule → Option Open) (calls : Rule → List Call) (m : Def × Open) : Type 0 where
   pub consistent : not (is_false know) ≡ true
-  pub body : Matches defs s pred rule names block ids calls
+  pub body : Matches defs s fold calls
   pub def : body.def ≡ m.0
   pub left : stays body.by ≡ Some m.1
-  pub rest : body.left ≡ others s.graph.edges (named_ids block ids)
-  pub this : body.this ≡ node_of names 0
-  pub args : body.args ≡ arguments m.0 names
+  pub rest : body.left ≡ others s.graph.edges (named_ids fold.block fold.edges)
+  pub this : body.this ≡ node_of fold.names 0
+  pub args : body.args ≡ arguments m.0 fold.names
 
-module _ {Open : Type 0} (know : Test) (defs : List Def) (pred : PredId) (rule : ℕ) (names : List NodeId) (block : Option EdgeId) (ids : List EdgeId) (stays : Rule → Option Open) (calls : Rule → List Call) (s : State) (tells : Tells know s) where
-  match_from : (m : Def × Open) → matching know defs pred rule names block ids stays calls s ≡ Ok m → Found know defs s pred rule names block ids stays calls m
+module _ {Open : Type 0} (know : Test) (defs : List Def) (fold : FoldInd) (stays : Rule → Option Open) (calls : Rule → List Call) (s : State) (tells : Tells know s) where
+  match_from : (m : Def × Open) → matching know defs fold stays calls s ≡ Ok m → Found know defs s fold stays calls m
   match_from m e =
       let es = s.graph.edges in
       let two = need_ok 2 _ _ m e in
-      let three = need_ok 3 (are_named es block ids) _ m two.1 in
-      let four = have_ok 4 (slice_get defs pred.0) _ m three.1 in
+      let three = need_ok 3 (are_named es fold.block fold.edges) _ m two.1 in
+      let four = have_ok 4 (slice_get defs fold.pred.0) _ m three.1 in
       let def = four.0 in
-      let listed = have_ok 4 (slice_get def.rules rule) _ m four.2 in
+      let listed = have_ok 4 (slice_get def.rules fold.rule) _ m four.2 in
       let by = listed.0 in
       let kept = have_ok 4 (stays by) _ m listed.2 in
-      let fits = need_ok 4 (fits_rule s.kinds def by (calls by) names block ids) _ m kept.2 in
-      let five = need_ok 5 (body_fits know es names by.block by.contents block) _ m fits.1 in
-      let six = need_ok 6 (all_both (is_call_at know es names) (calls by) ids) _ m five.1 in
-      let seven = need_ok 7 (knows_rule know names by) _ m six.1 in
-      let n = named_from es block ids three.0 in
-      let f = and_both (nat_lt (length def.params) (length names) && all_both (has_kind s.kinds) by.names names && length (calls by) == length ids) (block_fits block by.block) fits.0 in
-      let g = and_both (nat_lt (length def.params) (length names) && all_both (has_kind s.kinds) by.names names) (length (calls by) == length ids) f.0 in
-      let h = and_both (nat_lt (length def.params) (length names)) (all_both (has_kind s.kinds) by.names names) g.0 in
-      let less = lt_true (length def.params) (length names) h.0 in
+      let fits = need_ok 4 (fits_rule s.kinds def by (calls by) fold.names fold.block fold.edges) _ m kept.2 in
+      let five = need_ok 5 (body_fits know es fold.names by.block by.contents fold.block) _ m fits.1 in
+      let six = need_ok 6 (all_both (is_call_at know es fold.names) (calls by) fold.edges) _ m five.1 in
+      let seven = need_ok 7 (knows_rule know fold.names by) _ m six.1 in
+      let n = named_from es fold.block fold.edges three.0 in
+      let f = and_both (nat_lt (length def.params) (length fold.names) && all_both (has_kind s.kinds) by.names fold.names && length (calls by) == length fold.edges) (block_fits fold.block by.block) fits.0 in
+      let g = and_both (nat_lt (length def.params) (length fold.names) && all_both (has_kind s.kinds) by.names fold.names) (length (calls by) == length fold.edges) f.0 in
+      let h = and_both (nat_lt (length def.params) (length fold.names)) (all_both (has_kind s.kinds) by.names fold.names) g.0 in
+      let less = lt_true (length def.params) (length fold.names) h.0 in
       let is : ◌≡◌ {A = Def × Open} (def, kept.0) m = cc seven.1 in
       record {
         consistent = two.0;
         body = record {
           blocks = n.0;
           inds = n.1;
-          left = others es (named_ids block ids);
+          left = others es (named_ids fold.block fold.edges);
           picks = n.2.picks;
-          one_each = looked_count es ids n.1 n.2.looked;
+          one_each = looked_count es fold.edges n.1 n.2.looked;
           def = def;
           defined = four.1;
           by = by;
           listed = listed.1;
-          kinds = kinds_from s.kinds by.names names h.1;
-          this = node_of names 0;
-          args = arguments def names;
-          others = drop (length def.params) (drop 1 names);
-          front = parts_of (length def.params) names less;
-          count = count_args (length def.params) names less;
-          block_fits = bodies_from know s tells names es by.block by.contents block n.0 f.1 five.0 n.2.block_is;
-          calls_fit = calls_from know s tells names es (calls by) ids n.1 six.0 n.2.looked;
-          atoms = each_from (λ a. know (atom_of names a)) (λ a. Derives s (atom_of names a)) (λ a e. (tells (atom_of names a)).0 e) by.atoms seven.0;
+          kinds = kinds_from s.kinds by.names fold.names h.1;
+          this = node_of fold.names 0;
+          args = arguments def fold.names;
+          others = drop (length def.params) (drop 1 fold.names);
+          front = parts_of (length def.params) fold.names less;
+          count = count_args (length def.params) fold.names less;
+          block_fits = bodies_from know s tells fold.names es by.block by.contents fold.block n.0 f.1 five.0 n.2.block_is;
+          calls_fit = calls_from know s tells fold.names es (calls by) fold.edges n.1 six.0 n.2.looked;
+          atoms = each_from (λ a. know (atom_of fold.names a)) (λ a. Derives s (atom_of fold.names a)) (λ a e. (tells (atom_of fold.names a)).0 e) by.atoms seven.0;
         };
         def = ap (λ (x : Def × Open). x.0) is;
         left = kept.1 ∙ ap (λ (x : Def × Open). Some x.1) is;
         rest = refl;
         this = refl;
-        args = ap (λ (x : Def × Open). arguments x.0 names) is;
+        args = ap (λ (x : Def × Open). arguments x.0 fold.names) is;
       } where
         count_args : (n : ℕ) (names : List NodeId) → n < length names → length (take n (drop 1 names)) ≡ n
         count_args n names less = grind (arith, common_steps)
 
-  match_to : IsBounded s → not (is_false know) ≡ true → (m : Matches defs s pred rule names block ids calls) (left : Open) → stays m.by ≡ Some left → matching know defs pred rule names block ids stays calls s ≡ Ok (m.def, left)
+  match_to : IsBounded s → not (is_false know) ≡ true → (m : Matches defs s fold calls) (left : Open) → stays m.by ≡ Some left → matching know defs fold stays calls s ≡ Ok (m.def, left)
   match_to bounded consistent m left kept =
       let es = s.graph.edges in
-      let n = named_to es s.graph.next block ids m.blocks m.inds m.left bounded.ids m.picks m.one_each in
-      let named : are_named es block ids ≡ true = n.test in
-      let defined : slice_get defs pred.0 ≡ Some m.def = m.defined in
-      let listed : slice_get m.def.rules rule ≡ Some m.by = m.listed in
-      let bodies = bodies_to know s tells names es m.by.block m.by.contents block m.blocks m.block_fits n.block_is in
-      let less : nat_lt (length m.def.params) (length names) ≡ true = true_lt (length m.def.params) (length names) (long_enough (length m.def.params) names m.this m.args m.others m.front m.count) in
-      let counts : (length (calls m.by) == length ids) ≡ true = eq-eqb (length (calls m.by)) (length ids) (calls_count know s tells names (calls m.by) m.inds m.calls_fit ∙ m.one_each) in
-      let one = and_yes (nat_lt (length m.def.params) (length names)) (all_both (has_kind s.kinds) m.by.names names) less (kinds_to s.kinds m.by.names names m.kinds) in
-      let two = and_yes (nat_lt (length m.def.params) (length names) && all_both (has_kind s.kinds) m.by.names names) (length (calls m.by) == length ids) one counts in
-      let fits : fits_rule s.kinds m.def m.by (calls m.by) names block ids ≡ true = and_yes (nat_lt (length m.def.params) (length names) && all_both (has_kind s.kinds) m.by.names names && length (calls m.by) == length ids) (block_fits block m.by.block) two bodies.0 in
-      let body : body_fits know es names m.by.block m.by.contents block ≡ true = bodies.1 in
-      let matched : all_both (is_call_at know es names) (calls m.by) ids ≡ true = calls_to know s tells names es (calls m.by) ids m.inds m.calls_fit n.looked in
-      let atoms : knows_rule know names m.by ≡ true = each_to (λ a. know (atom_of names a)) (λ a. Derives s (atom_of names a)) (λ a d. (tells (atom_of names a)).1 d) m.by.atoms m.atoms in
+      let n = named_to es s.graph.next fold.block fold.edges m.blocks m.inds m.left bounded.ids m.picks m.one_each in
+      let named : are_named es fold.block fold.edges ≡ true = n.test in
+      let defined : slice_get defs fold.pred.0 ≡ Some m.def = m.defined in
+      let listed : slice_get m.def.rules fold.rule ≡ Some m.by = m.listed in
+      let bodies = bodies_to know s tells fold.names es m.by.block m.by.contents fold.block m.blocks m.block_fits n.block_is in
+      let less : nat_lt (length m.def.params) (length fold.names) ≡ true = true_lt (length m.def.params) (length fold.names) (long_enough (length m.def.params) fold.names m.this m.args m.others m.front m.count) in
+      let counts : (length (calls m.by) == length fold.edges) ≡ true = eq-eqb (length (calls m.by)) (length fold.edges) (calls_count know s tells fold.names (calls m.by) m.inds m.calls_fit ∙ m.one_each) in
+      let one = and_yes (nat_lt (length m.def.params) (length fold.names)) (all_both (has_kind s.kinds) m.by.names fold.names) less (kinds_to s.kinds m.by.names fold.names m.kinds) in
+      let two = and_yes (nat_lt (length m.def.params) (length fold.names) && all_both (has_kind s.kinds) m.by.names fold.names) (length (calls m.by) == length fold.edges) one counts in
+      let fits : fits_rule s.kinds m.def m.by (calls m.by) fold.names fold.block fold.edges ≡ true = and_yes (nat_lt (length m.def.params) (length fold.names) && all_both (has_kind s.kinds) m.by.names fold.names && length (calls m.by) == length fold.edges) (block_fits fold.block m.by.block) two bodies.0 in
+      let body : body_fits know es fold.names m.by.block m.by.contents fold.block ≡ true = bodies.1 in
+      let matched : all_both (is_call_at know es fold.names) (calls m.by) fold.edges ≡ true = calls_to know s tells fold.names es (calls m.by) fold.edges m.inds m.calls_fit n.looked in
+      let atoms : knows_rule know fold.names m.by ≡ true = each_to (λ a. know (atom_of fold.names a)) (λ a. Derives s (atom_of fold.names a)) (λ a d. (tells (atom_of fold.names a)).1 d) m.by.atoms m.atoms in
       rw consistent (rw named (rw defined (rw listed (rw kept (rw fits (rw body (rw matched (rw atoms refl))))))))
 
   -- what is left, and the start and the arguments, are those of the judge
-  match_parts : IsBounded s → (m : Matches defs s pred rule names block ids calls) → (m.left ≡ others s.graph.edges (named_ids block ids)) × (node_of names 0 ≡ m.this) × (arguments m.def names ≡ m.args)
+  match_parts : IsBounded s → (m : Matches defs s fold calls) → (m.left ≡ others s.graph.edges (named_ids fold.block fold.edges)) × (node_of fold.names 0 ≡ m.this) × (arguments m.def fold.names ≡ m.args)
   match_parts bounded m =
-      let n = named_to s.graph.edges s.graph.next block ids m.blocks m.inds m.left bounded.ids m.picks m.one_each in
-      (n.left_is, first_of_parts names m.this m.args m.others m.front, args_of_parts (length m.def.params) names m.this m.args m.others m.front m.count)
+      let n = named_to s.graph.edges s.graph.next fold.block fold.edges m.blocks m.inds m.left bounded.ids m.picks m.one_each in
+      (n.left_is, first_of_parts fold.names m.this m.args m.others m.front, args_of_parts (length m.def.params) fold.names m.this m.args m.others m.front m.count)
 
-module _ (know : Test) (defs : List Def) (pred : PredId) (rule : ℕ) (names : List NodeId) (block : Option EdgeId) (ids : List EdgeId) (s : State) (tells : Tells know s) where
+module _ (know : Test) (defs : List Def) (fold : FoldInd) (s : State) (tells : Tells know s) where
   abbrev ind_of_match : Def × Unit {0} → List State
-  ind_of_match m = with_fold s (named_ids block ids) (Ind (node_of names 0) pred (arguments m.0 names)) ∷ []
+  ind_of_match m = with_fold s (named_ids fold.block fold.edges) (Ind (node_of fold.names 0) fold.pred (arguments m.0 fold.names)) ∷ []
 
-  ind_from : (next : List State) → folding_ind know defs pred rule names block ids s ≡ Ok next → FoldsInd defs pred rule names block ids s next
+  ind_from : (next : List State) → folding_ind know defs fold s ≡ Ok next → FoldsInd defs fold s next
   ind_from next e =
-      let t = then_ok ind_of_match (matching know defs pred rule names block ids nothing (λ by. by.calls) s) next e in
-      let f = match_from know defs pred rule names block ids nothing (λ by. by.calls) s tells t.0 t.1 in
+      let t = then_ok ind_of_match (matching know defs fold nothing (λ by. by.calls) s) next e in
+      let f = match_from know defs fold nothing (λ by. by.calls) s tells t.0 t.1 in
       record {
         consistent = not_false know s tells f.consistent;
         body = f.body;
         gives = t.2
-            ∙ ap (λ l. folded s l (Ind (node_of names 0) pred (arguments t.0.0 names)) ∷ []) (sym f.rest)
-            ∙ ap (λ n. folded s f.body.left (Ind n pred (arguments t.0.0 names)) ∷ []) (sym f.this)
-            ∙ ap (λ a. folded s f.body.left (Ind f.body.this pred a) ∷ []) (sym f.args);
+            ∙ ap (λ l. folded s l (Ind (node_of fold.names 0) fold.pred (arguments t.0.0 fold.names)) ∷ []) (sym f.rest)
+            ∙ ap (λ n. folded s f.body.left (Ind n fold.pred (arguments t.0.0 fold.names)) ∷ []) (sym f.this)
+            ∙ ap (λ a. folded s f.body.left (Ind f.body.this fold.pred a) ∷ []) (sym f.args);
       }
 
-  ind_to : IsBounded s → (next : List State) → FoldsInd defs pred rule names block ids s next → folding_ind know defs pred rule names block ids s ≡ Ok next
+  ind_to : IsBounded s → (next : List State) → FoldsInd defs fold s next → folding_ind know defs fold s ≡ Ok next
   ind_to bounded next i =
       let m = i.body in
-      let parts = match_parts know defs pred rule names block ids nothing (λ by. by.calls) s tells bounded m in
-      let judged = match_to know defs pred rule names block ids nothing (λ by. by.calls) s tells bounded (is_sound know s tells i.consistent) m tt refl in
+      let parts = match_parts know defs fold nothing (λ by. by.calls) s tells bounded m in
+      let judged = match_to know defs fold nothing (λ by. by.calls) s tells bounded (is_sound know s tells i.consistent) m tt refl in
       let gives : ◌≡◌ {A = List State} (ind_of_match (m.def, tt)) next =
-      ap (λ l. folded s l (Ind (node_of names 0) pred (arguments m.def names)) ∷ []) (sym parts.0)
-      ∙ ap (λ n. folded s m.left (Ind n pred (arguments m.def names)) ∷ []) parts.1
-      ∙ ap (λ a. folded s m.left (Ind m.this pred a) ∷ []) parts.2
+      ap (λ l. folded s l (Ind (node_of fold.names 0) fold.pred (arguments m.def fold.names)) ∷ []) (sym parts.0)
+      ∙ ap (λ n. folded s m.left (Ind n fold.pred (arguments m.def fold.names)) ∷ []) parts.1
+      ∙ ap (λ a. folded s m.left (Ind m.this fold.pred a) ∷ []) parts.2
       ∙ sym i.gives in
       ap (then_give ind_of_match) judged ∙ ap (λ n. Ok n) gives
 
@@ -288,24 +290,24 @@ own_to pred o call e is =
     let test : (call.pred.0 == pred.0) ≡ true = eq-eqb call.pred.0 pred.0 (ap (λ (p : PredId). p.0) is) in
     ap (own_call pred) e ∙ ap (λ b. if b then Some call else None) test
 
-module _ (know : Test) (defs : List Def) (pred : PredId) (rule : ℕ) (names : List NodeId) (block : EdgeId) (ids : List EdgeId) (call : ℕ) (s : State) (tells : Tells know s) where
+module _ (know : Test) (defs : List Def) (fold : FoldSeg) (s : State) (tells : Tells know s) where
   abbrev seg_of_match : Def × Call → List State
   seg_of_match m =
-      with_fold s (named_ids (Some block) ids) (Seg (node_of names 0) (arguments m.0 names) pred (node_of names m.1.at) (map (node_of names) m.1.args)) ∷ []
+      with_fold s (named_ids (Some fold.block) fold.edges) (Seg (node_of fold.names 0) (arguments m.0 fold.names) fold.pred (node_of fold.names m.1.at) (map (node_of fold.names) m.1.args)) ∷ []
 
   abbrev open_of : Rule → Option Call
-  open_of by = own_call pred (slice_get by.calls call)
+  open_of by = own_call fold.pred (slice_get by.calls fold.call)
 
   abbrev other_calls : Rule → List Call
-  other_calls by = remove by.calls call
+  other_calls by = remove by.calls fold.call
 
-  seg_from : (next : List State) → folding_seg know defs pred rule names block ids call s ≡ Ok next → FoldsSeg defs pred rule names block ids call s next
+  seg_from : (next : List State) → folding_seg know defs fold s ≡ Ok next → FoldsSeg defs fold s next
   seg_from next e =
-      let t = then_ok seg_of_match (matching know defs pred rule names (Some block) ids open_of other_calls s) next e in
-      let f = match_from know defs pred rule names (Some block) ids open_of other_calls s tells t.0 t.1 in
-      let own = own_from pred (slice_get f.body.by.calls call) t.0.1 f.left in
-      let stop = node_of names t.0.1.at in
-      let ends = map (node_of names) t.0.1.args in
+      let t = then_ok seg_of_match (matching know defs (as_ind fold) open_of other_calls s) next e in
+      let f = match_from know defs (as_ind fold) open_of other_calls s tells t.0 t.1 in
+      let own = own_from fold.pred (slice_get f.body.by.calls fold.call) t.0.1 f.left in
+      let stop = node_of fold.names t.0.1.at in
+      let ends = map (node_of fold.names) t.0.1.args in
       record {
         consistent = not_false know s tells f.consistent;
         body = f.body;
@@ -313,29 +315,29 @@ module _ (know : Test) (defs : List Def) (pred : PredId) (rule : ℕ) (names : L
         called = own.0;
         own = own.1;
         gives = t.2
-            ∙ ap (λ l. folded s l (Seg (node_of names 0) (arguments t.0.0 names) pred stop ends) ∷ []) (sym f.rest)
-            ∙ ap (λ n. folded s f.body.left (Seg n (arguments t.0.0 names) pred stop ends) ∷ []) (sym f.this)
-            ∙ ap (λ a. folded s f.body.left (Seg f.body.this a pred stop ends) ∷ []) (sym f.args);
+            ∙ ap (λ l. folded s l (Seg (node_of fold.names 0) (arguments t.0.0 fold.names) fold.pred stop ends) ∷ []) (sym f.rest)
+            ∙ ap (λ n. folded s f.body.left (Seg n (arguments t.0.0 fold.names) fold.pred stop ends) ∷ []) (sym f.this)
+            ∙ ap (λ a. folded s f.body.left (Seg f.body.this a fold.pred stop ends) ∷ []) (sym f.args);
       }
 
-  seg_to : IsBounded s → (next : List State) → FoldsSeg defs pred rule names block ids call s next → folding_seg know defs pred rule names block ids call s ≡ Ok next
+  seg_to : IsBounded s → (next : List State) → FoldsSeg defs fold s next → folding_seg know defs fold s ≡ Ok next
   seg_to bounded next i =
       let m = i.body in
-      let parts = match_parts know defs pred rule names (Some block) ids open_of other_calls s tells bounded m in
-      let judged = match_to know defs pred rule names (Some block) ids open_of other_calls s tells bounded (is_sound know s tells i.consistent) m i.open_call (own_to pred (slice_get m.by.calls call) i.open_call i.called i.own) in
-      let stop = node_of names i.open_call.at in
-      let ends = map (node_of names) i.open_call.args in
+      let parts = match_parts know defs (as_ind fold) open_of other_calls s tells bounded m in
+      let judged = match_to know defs (as_ind fold) open_of other_calls s tells bounded (is_sound know s tells i.consistent) m i.open_call (own_to fold.pred (slice_get m.by.calls fold.call) i.open_call i.called i.own) in
+      let stop = node_of fold.names i.open_call.at in
+      let ends = map (node_of fold.names) i.open_call.args in
       let gives : ◌≡◌ {A = List State} (seg_of_match (m.def, i.open_call)) next =
-      ap (λ l. folded s l (Seg (node_of names 0) (arguments m.def names) pred stop ends) ∷ []) (sym parts.0)
-      ∙ ap (λ n. folded s m.left (Seg n (arguments m.def names) pred stop ends) ∷ []) parts.1
-      ∙ ap (λ a. folded s m.left (Seg m.this a pred stop ends) ∷ []) parts.2
+      ap (λ l. folded s l (Seg (node_of fold.names 0) (arguments m.def fold.names) fold.pred stop ends) ∷ []) (sym parts.0)
+      ∙ ap (λ n. folded s m.left (Seg n (arguments m.def fold.names) fold.pred stop ends) ∷ []) parts.1
+      ∙ ap (λ a. folded s m.left (Seg m.this a fold.pred stop ends) ∷ []) parts.2
       ∙ sym i.gives in
       ap (then_give seg_of_match) judged ∙ ap (λ n. Ok n) gives
 
 pub fold_ind_judged : FoldIndIsJudged
-fold_ind_judged know defs pred rule names block ids s bounded tells next =
-    (ind_from know defs pred rule names block ids s tells next, ind_to know defs pred rule names block ids s tells bounded next)
+fold_ind_judged know defs fold s bounded tells next =
+    (ind_from know defs fold s tells next, ind_to know defs fold s tells bounded next)
 
 pub fold_seg_judged : FoldSegIsJudged
-fold_seg_judged know defs pred rule names block ids call s bounded tells next =
-    (seg_from know defs pred rule names block ids call s tells next, seg_to know defs pred rule names block ids call s tells bounded next)
+fold_seg_judged know defs fold s bounded tells next =
+    (seg_from know defs fold s tells next, seg_to know defs fold s tells bounded next)

@@ -3,24 +3,12 @@ use Rattle.std.proofs.Common.{◌≡◌, ℕ, suc, List, [], ◌∷◌, ◌++◌
 use Rattle.std.specs.List.{AllByRecursion}
 
 module _ {X : Type 0} where
-  pub all_left : (P : X → Type 0) (xs ys : List X) → AllByRecursion P (xs ++ ys) → AllByRecursion P xs
-  all_left P [] ys a = tt
-  all_left P (x ∷ xs) ys a = (a.0, all_left P xs ys a.1)
-
-  pub all_right : (P : X → Type 0) (xs ys : List X) → AllByRecursion P (xs ++ ys) → AllByRecursion P ys
-  all_right P [] ys a = a
-  all_right P (x ∷ xs) ys a = all_right P xs ys a.1
-
-  pub all_append : (P : X → Type 0) (xs ys : List X) → AllByRecursion P xs → AllByRecursion P ys → AllByRecursion P (xs ++ ys)
-  all_append P [] ys a b = b
-  all_append P (x ∷ xs) ys a b = (a.0, all_append P xs ys a.1 b)
-
   -- what holds of each that stands at a place holds of all
   pub all_places : (P : X → Type 0) (xs : List X) → ((place : ℕ) (x : X) → slice_get xs place ≡ Some x → P x) → AllByRecursion P xs
   all_places P [] f = tt
   all_places P (x ∷ xs) f = (f 0 x refl, all_places P xs (λ place y e. f (suc place) y e))
 
-  -- two lists of one length with something behind them
+  -- two lists of one length with something after them
   pub same_front : (xs ys more others : List X) → length xs ≡ length ys → xs ++ more ≡ ys ++ others → xs ≡ ys
   same_front [] [] more others n e = refl
   same_front [] (y ∷ ys) more others n e = absurd (cc n)

@@ -1,5 +1,5 @@
 -- Folded edges fit where the edges before do.
-use Rattle.std.proofs.Common.{◌≡◌, ℕ, zero, suc, List, [], ◌∷◌, ◌++◌, Bool, true, false, Option, Some, length, map, take, slice_get, sym, ◌∙◌, ap, subst}
+use Rattle.std.proofs.Common.{◌≡◌, ℕ, zero, suc, List, [], ◌∷◌, ◌++◌, Bool, true, false, Some, length, map, take, slice_get, sym, ◌∙◌, ap, subst}
 use Rattle.std.proofs.lemmas.List.Elements.{All-contains}
 use Rattle.std.specs.Prelude.{◌==◌, option_to_list, remove, if◌then◌else◌}
 use Rattle.std.specs.List.{AllByRecursion}
@@ -19,13 +19,14 @@ use Rattle.mc_state.specs.declared.graph.edge.Edge.{Edge}
 use Rattle.mc_state.specs.declared.graph.edge.Edge.TheVariants.{Ind, Seg}
 use Rattle.mc_state.specs.Graph.Graph.{Edges, Picks, edge_with, without}
 use Rattle.mc_pure.specs.Pure.{Kinds, HasKind}
+use Rattle.mc_state.specs.declared.line.FoldInd.{FoldInd}
 use Rattle.mc_state.specs.State.{State, with_edges}
 use Rattle.mc_state.specs.Fits.{IsBounded, HaveKinds, ArgsFit, EdgeFitsDefs, EdgeFitsStructs, IsWellMade}
-use Rattle.mc_rules_logic.specs.Fold.Folded.{folded, Matches}
+use Rattle.mc_rules_logic.specs.Fold.Folded.{as_ind, folded, Matches}
 use Rattle.mc_rules_logic.specs.Fold.Laws.{LawOfFoldInd, LawOfFoldSeg, LawOfCloseSeg, LawOfJoinSegs, LawOfEmptySeg, LawOfDrop}
 use Rattle.mc_rules_logic.specs.Fold.MadeLaws.{FoldIndStaysMade, FoldSegStaysMade, CloseSegStaysMade, JoinSegsStaysMade, EmptySegStaysMade, DropStaysMade}
-use Rattle.mc_rules_logic.proofs.FoldLemmas.Lists.{all_append}
 use Rattle.mc_rules_logic.proofs.FoldLemmas.Reaching.{among_at, among_to}
+use Rattle.mc_state.proofs.Lists.{all_append}
 
 -- ---- edges that are left
 
@@ -127,40 +128,40 @@ rule_fits defs pred rule def by fit defined listed =
     let r = All-contains (RuleFitsStructs fit.0 defs def.params) def.rules by d.rules (among_to def.rules by (among_at def.rules rule by listed)) in
     r.fits
 
-module _ (defs : List Def) (s : State) (pred : PredId) (rule : ℕ) (names : List NodeId) (block : Option EdgeId) (edges : List EdgeId) (calls : Rule → List Call) (m : Matches defs s pred rule names block edges calls) (fit : IsDefs defs) where
-  front_fits : HasKind s.kinds Ptr m.this × ArgsFit defs s.kinds pred m.args
+module _ (defs : List Def) (s : State) (fold : FoldInd) (calls : Rule → List Call) (m : Matches defs s fold calls) (fit : IsDefs defs) where
+  front_fits : HasKind s.kinds Ptr m.this × ArgsFit defs s.kinds fold.pred m.args
   front_fits =
-      let rule_is = rule_fits defs pred.0 rule m.def m.by fit m.defined m.listed in
-      let both = front_kinds s.kinds m.by.names m.def.params names m.this m.args m.others rule_is.names.front m.front m.count m.kinds in
+      let rule_is = rule_fits defs fold.pred.0 fold.rule m.def m.by fit m.defined m.listed in
+      let both = front_kinds s.kinds m.by.names m.def.params fold.names m.this m.args m.others rule_is.names.front m.front m.count m.kinds in
       (both.0, (m.def, m.defined, both.1))
 
-  call_fits : (place : ℕ) (call : Call) → slice_get m.by.calls place ≡ Some call → call.pred ≡ pred → HasKind s.kinds Ptr (node_of names call.at) × ArgsFit defs s.kinds pred (map (node_of names) call.args)
+  call_fits : (place : ℕ) (call : Call) → slice_get m.by.calls place ≡ Some call → call.pred ≡ fold.pred → HasKind s.kinds Ptr (node_of fold.names call.at) × ArgsFit defs s.kinds fold.pred (map (node_of fold.names) call.args)
   call_fits place call called own =
-      let rule_is = rule_fits defs pred.0 rule m.def m.by fit m.defined m.listed in
+      let rule_is = rule_fits defs fold.pred.0 fold.rule m.def m.by fit m.defined m.listed in
       let c = All-contains (CallFits defs m.by.names) m.by.calls call rule_is.calls (among_to m.by.calls call (among_at m.by.calls place call called)) in
-      let defined : slice_get defs pred.0 ≡ Some c.def = ap (λ (p : PredId). slice_get defs p.0) (sym own) ∙ c.defined in
-      (kind_at s.kinds m.by.names names call.at Ptr m.kinds c.pointer, (c.def, defined, kinds_at s.kinds m.by.names names call.args c.def.params m.kinds c.args))
+      let defined : slice_get defs fold.pred.0 ≡ Some c.def = ap (λ (p : PredId). slice_get defs p.0) (sym own) ∙ c.defined in
+      (kind_at s.kinds m.by.names fold.names call.at Ptr m.kinds c.pointer, (c.def, defined, kinds_at s.kinds m.by.names fold.names call.args c.def.params m.kinds c.args))
 
 -- ---- the rules
 
 pub fold_ind_made : LawOfFoldInd → FoldIndStaysMade
-fold_ind_made law defs vars structs pred rule names block edges s next fit i w =
+fold_ind_made law defs vars structs fold s next fit i w =
     let m = i.body in
-    let new : Edge = Ind m.this pred m.args in
-    let f = front_fits defs s pred rule names block edges (λ r. r.calls) m fit in
-    let bounded = subst (AllByRecursion IsBounded) i.gives (law defs pred rule names block edges s next w.bounded i).1 in
-    rw i.gives (fold_made defs vars structs s (option_to_list block ++ edges) (m.blocks ++ m.inds) m.left new m.picks w f tt bounded.0, tt)
+    let new : Edge = Ind m.this fold.pred m.args in
+    let f = front_fits defs s fold (λ r. r.calls) m fit in
+    let bounded = subst (AllByRecursion IsBounded) i.gives (law defs fold s next w.bounded i).1 in
+    rw i.gives (fold_made defs vars structs s (option_to_list fold.block ++ fold.edges) (m.blocks ++ m.inds) m.left new m.picks w f tt bounded.0, tt)
 
 pub fold_seg_made : LawOfFoldSeg → FoldSegStaysMade
-fold_seg_made law defs vars structs pred rule names block edges call s next fit i w =
+fold_seg_made law defs vars structs fold s next fit i w =
     let m = i.body in
-    let stop : NodeId = node_of names i.open_call.at in
-    let ends : List NodeId = map (node_of names) i.open_call.args in
-    let new : Edge = Seg m.this m.args pred stop ends in
-    let f = front_fits defs s pred rule names (Some block) edges (λ r. remove r.calls call) m fit in
-    let g = call_fits defs s pred rule names (Some block) edges (λ r. remove r.calls call) m fit call i.open_call i.called i.own in
-    let bounded = subst (AllByRecursion IsBounded) i.gives (law defs pred rule names block edges call s next w.bounded i).1 in
-    rw i.gives (fold_made defs vars structs s (block ∷ edges) (m.blocks ++ m.inds) m.left new m.picks w (f.0, f.1, g.0, g.1) tt bounded.0, tt)
+    let stop : NodeId = node_of fold.names i.open_call.at in
+    let ends : List NodeId = map (node_of fold.names) i.open_call.args in
+    let new : Edge = Seg m.this m.args fold.pred stop ends in
+    let f = front_fits defs s (as_ind fold) (λ r. remove r.calls fold.call) m fit in
+    let g = call_fits defs s (as_ind fold) (λ r. remove r.calls fold.call) m fit fold.call i.open_call i.called i.own in
+    let bounded = subst (AllByRecursion IsBounded) i.gives (law defs fold s next w.bounded i).1 in
+    rw i.gives (fold_made defs vars structs s (fold.block ∷ fold.edges) (m.blocks ++ m.inds) m.left new m.picks w (f.0, f.1, g.0, g.1) tt bounded.0, tt)
 
 pub close_seg_made : LawOfCloseSeg → CloseSegStaysMade
 close_seg_made law defs vars structs first second s next i w =

@@ -34,11 +34,12 @@ use Rattle.mc_pure.specs.Whole.{IsInside}
 use Rattle.mc_state.proofs.Tests.{not_no}
 use Rattle.mc_rules_logic.proofs.FoldLemmas.ChangeJudging.{known_var, differ_to}
 use Rattle.mc_rules_logic.proofs.FoldLemmas.KindsAgree.{Parted, IsNumber, KindsAgree, number_back, agree, base_agrees}
-use Rattle.mc_rules_logic.proofs.FoldLemmas.Lists.{all_places, all_append}
+use Rattle.mc_rules_logic.proofs.FoldLemmas.Lists.{all_places}
 use Rattle.mc_rules_logic.proofs.FoldLemmas.MadeNodes.{in_kind, overlap, not_below, kept_kind, may_more, defs_more, structs_more}
 use Rattle.mc_rules_logic.proofs.FoldLemmas.Naming.{after_is}
 use Rattle.mc_rules_logic.proofs.FoldLemmas.Ordered.{among_cases, among_none}
 use Rattle.mc_rules_logic.proofs.FoldLemmas.Reaching.{Among, among_at, among_from, among_to, among_left, among_all, place_of}
+use Rattle.mc_state.proofs.Lists.{all_append}
 
 -- ---- numbers in their bounds
 

@@ -29,7 +29,7 @@ use Rattle.mc_state.specs.Fits.{IsBounded, HaveKinds, MayHaveKinds, EdgeFitsDefs
 use Rattle.mc_state.specs.Laws.{NewNodesHaveKinds}
 use Rattle.mc_rules_logic.specs.Fold.Laws.{LawOfSpare, LawOfMerge}
 use Rattle.mc_rules_logic.specs.Fold.MadeLaws.{SpareStaysMade, MergeStaysMade}
-use Rattle.mc_rules_logic.proofs.FoldLemmas.Lists.{all_left, all_right, all_append}
+use Rattle.mc_state.proofs.Lists.{all_append, all_left, all_right}
 
 -- ---- kinds that nodes keep
 
@@ -186,24 +186,24 @@ kept_kind (k ∷ kinds) gone n differ = at (kept_kind kinds gone n differ) (k.0.
 
 -- nodes that are moved have their kinds there
 module _ (f : ℕ → ℕ) (kinds others : Kinds) (more : (kind : Kind) (n : NodeId) → HasKind kinds kind n → HasKind others kind (moved f n)) where
-  have_moved : (ks : List Kind) (ns : List NodeId) → HaveKinds kinds ks ns → HaveKinds others ks (map (moved f) ns)
+  pub have_moved : (ks : List Kind) (ns : List NodeId) → HaveKinds kinds ks ns → HaveKinds others ks (map (moved f) ns)
   have_moved [] [] h = tt
   have_moved [] (n ∷ ns) h = absurd h
   have_moved (k ∷ ks) [] h = absurd h
   have_moved (k ∷ ks) (n ∷ ns) h = (more k n h.0, have_moved ks ns h.1)
 
-  may_moved : (ks : List Kind) (ns : List (Option NodeId)) → MayHaveKinds kinds ks ns → MayHaveKinds others ks (map (option_map (moved f)) ns)
+  pub may_moved : (ks : List Kind) (ns : List (Option NodeId)) → MayHaveKinds kinds ks ns → MayHaveKinds others ks (map (option_map (moved f)) ns)
   may_moved [] [] h = tt
   may_moved [] (n ∷ ns) h = absurd h
   may_moved (k ∷ ks) [] h = absurd h
   may_moved (k ∷ ks) (None ∷ ns) h = (tt, may_moved ks ns h.1)
   may_moved (k ∷ ks) (Some n ∷ ns) h = (more k n h.0, may_moved ks ns h.1)
 
-  count_moved : (ns : List (Option NodeId)) → length (map (option_map (moved f)) ns) ≡ length ns
+  pub count_moved : (ns : List (Option NodeId)) → length (map (option_map (moved f)) ns) ≡ length ns
   count_moved [] = refl
   count_moved (n ∷ ns) = ap suc (count_moved ns)
 
-  defs_moved : (defs : List Def) (e : Edge) → EdgeFitsDefs defs kinds e → EdgeFitsDefs defs others (moved_edge f e)
+  pub defs_moved : (defs : List Def) (e : Edge) → EdgeFitsDefs defs kinds e → EdgeFitsDefs defs others (moved_edge f e)
   defs_moved defs (Block at shape fields) h = (more Ptr at h.0, λ p r def rule d l b. count_moved fields ∙ h.1 p r def rule d l b)
   defs_moved defs (Ind at pred args) h = (more Ptr at h.0, (h.1.0, h.1.1, have_moved h.1.0.params args h.1.2))
   defs_moved defs (Seg at args pred stop ends) h = (
@@ -213,7 +213,7 @@ module _ (f : ℕ → ℕ) (kinds others : Kinds) (more : (kind : Kind) (n : Nod
     (h.3.0, h.3.1, have_moved h.3.0.params ends h.3.2),
   )
 
-  structs_moved : (structs : List StructInfo) (e : Edge) → EdgeFitsStructs structs kinds e → EdgeFitsStructs structs others (moved_edge f e)
+  pub structs_moved : (structs : List StructInfo) (e : Edge) → EdgeFitsStructs structs kinds e → EdgeFitsStructs structs others (moved_edge f e)
   structs_moved structs (Block at shape fields) h = (h.0, h.1, may_moved (map (λ x. x.kind) h.0.fields) fields h.2)
   structs_moved structs (Ind at pred args) h = tt
   structs_moved structs (Seg at args pred stop ends) h = tt

@@ -3,9 +3,7 @@ use Rattle.std.proofs.Common.{◌≡◌, ℕ, ℤ, Option, Some, None, List, [],
 use Rattle.std.specs.List.{AllByRecursion}
 use Rattle.std.specs.Prelude.{remove, option_to_list}
 use Rattle.std.proofs.lemmas.List.{map-append, length-map}
-use Rattle.mc_base.specs.declared.ids.EdgeId.{EdgeId}
 use Rattle.mc_base.specs.declared.ids.NodeId.{NodeId}
-use Rattle.mc_base.specs.declared.ids.PredId.{PredId}
 use Rattle.mc_base.specs.declared.ids.StructId.{StructId}
 use Rattle.mc_base.specs.Nodes.{Valuation, at_node}
 use Rattle.mc_flow.specs.Heap.Heap.{Region, IsAtAddresses}
@@ -24,13 +22,15 @@ use Rattle.mc_pure.specs.Pure.{IsNode}
 use Rattle.mc_state.specs.Facts.{Derives}
 use Rattle.mc_state.specs.Fits.{AreNodes}
 use Rattle.mc_state.specs.Stands.{VarsMeet, EdgeMeets, StandsBy}
+use Rattle.mc_state.specs.declared.line.FoldInd.{FoldInd}
 use Rattle.mc_state.specs.State.{State}
-use Rattle.mc_rules_logic.specs.Fold.Folded.{FieldsMatch, BlocksMatch, CallsMatch, Matches}
+use Rattle.mc_rules_logic.specs.Fold.Folded.{as_ind, FieldsMatch, BlocksMatch, CallsMatch, Matches}
 use Rattle.mc_rules_logic.specs.Fold.Laws.{LawOfFoldInd, LawOfFoldSeg}
-use Rattle.mc_rules_logic.proofs.FoldLemmas.Lists.{all_left, all_append}
-use Rattle.mc_rules_logic.proofs.FoldLemmas.Names.{name_value, name_values, atom_true, in_kinds, kinds_there, name_there, names_there}
+use Rattle.mc_rules_logic.proofs.FoldLemmas.Names.{name_value, name_values, atom_true, in_kinds, kinds_there}
 use Rattle.mc_rules_logic.proofs.FoldLemmas.Parts.{star_parts, one_star}
 use Rattle.mc_rules_logic.proofs.FoldLemmas.Standing.{FoldLaws, one_value, folded_lawful}
+use Rattle.mc_rules_logic.proofs.UnfoldLemmas.Names.{name_there, names_there}
+use Rattle.mc_state.proofs.Lists.{all_append, all_left}
 
 module _ (laws : FoldLaws) (defs : List Def) (v : Valuation) (values : List (Option ℤ)) (region : Region) (s : State) (addresses : IsAtAddresses region) (st : StandsBy defs v values region s) (nodes : List NodeId) where
   abbrev names : List ℤ
@@ -74,68 +74,68 @@ module _ (laws : FoldLaws) (defs : List Def) (v : Valuation) (values : List (Opt
   atoms_are [] a = tt
   atoms_are (f ∷ atoms) a = (atom_true v nodes st.null f (laws.truth defs v values region s (atom_of nodes f) addresses st a.0), atoms_are atoms a.1)
 
-module _ (laws : FoldLaws) (defs : List Def) (s : State) (pred : PredId) (rule : ℕ) (nodes : List NodeId) (block : Option EdgeId) (edges : List EdgeId) (calls : Rule → List Call) (body : Matches defs s pred rule nodes block edges calls) where
-  there : AreNodes s.kinds nodes
-  there = kinds_there s.kinds body.by.names nodes body.kinds
+module _ (laws : FoldLaws) (defs : List Def) (s : State) (fold : FoldInd) (calls : Rule → List Call) (body : Matches defs s fold calls) where
+  there : AreNodes s.kinds fold.names
+  there = kinds_there s.kinds body.by.names fold.names body.kinds
 
   pub front_there : AreNodes s.kinds (body.this ∷ body.args)
   front_there =
       let all : AreNodes s.kinds (body.this ∷ (body.args ++ body.others)) = subst (AreNodes s.kinds) body.front there in
       (all.0, all_left (IsNode s.kinds) body.args body.others all.1)
 
-  pub called_there : (call : Call) → AreNodes s.kinds (node_of nodes call.at ∷ map (node_of nodes) call.args)
-  called_there call = (name_there s.kinds nodes call.at there, names_there s.kinds nodes call.args there)
+  pub called_there : (call : Call) → AreNodes s.kinds (node_of fold.names call.at ∷ map (node_of fold.names) call.args)
+  called_there call = (name_there s.kinds fold.names call.at there, names_there s.kinds fold.names call.args there)
 
   module _ (v : Valuation) (values : List (Option ℤ)) (region : Region) (addresses : IsAtAddresses region) (st : StandsBy defs v values region s) where
-    -- the rule with the values of the nodes
-    abbrev pub by_rule : RuleValues defs pred (v body.this.0) (map (at_node v) body.args)
+    -- the rule with the values of the names
+    abbrev pub by_rule : RuleValues defs fold.pred (v body.this.0) (map (at_node v) body.args)
     by_rule = record {
       def = body.def;
       defined = body.defined;
       rule = body.by;
-      place = rule;
+      place = fold.rule;
       listed = body.listed;
-      names = map (at_node v) nodes;
-      kinds = in_kinds v s.kinds body.by.names nodes st.null st.kinds body.kinds;
+      names = map (at_node v) fold.names;
+      kinds = in_kinds v s.kinds body.by.names fold.names st.null st.kinds body.kinds;
       count = length-map body.args (at_node v) ∙ body.count;
       others = map (at_node v) body.others;
       front = ap (map (at_node v)) body.front ∙ ap (λ zs. v body.this.0 ∷ zs) (map-append (at_node v) body.args body.others);
-      atoms = atoms_are laws defs v values region s addresses st nodes body.by.atoms body.atoms;
+      atoms = atoms_are laws defs v values region s addresses st fold.names body.by.atoms body.atoms;
     }
 
     -- the part of the edges is the rule's block and calls
     pub body_is : (part : Region) → Star (EdgeMeets defs v) (body.blocks ++ body.inds) part
-        → (held : Region) × (rest : Region) × Split part held rest × BlockMeets body.by.block body.by.contents (map (at_node v) nodes) held × Star (CallMeets (Sat defs) (map (at_node v) nodes)) (calls body.by) rest
+        → (held : Region) × (rest : Region) × Split part held rest × BlockMeets body.by.block body.by.contents (map (at_node v) fold.names) held × Star (CallMeets (Sat defs) (map (at_node v) fold.names)) (calls body.by) rest
     body_is part each =
         let both = star_parts laws.parts (EdgeMeets defs v) body.blocks body.inds part each in (
           both.0,
           both.1,
           both.2,
-          blocks_are laws defs v values region s addresses st nodes body.by.block body.by.contents body.blocks both.0 body.block_fits both.3,
-          calls_are laws defs v values region s addresses st nodes (calls body.by) body.inds both.1 body.calls_fit both.4,
+          blocks_are laws defs v values region s addresses st fold.names body.by.block body.by.contents body.blocks both.0 body.block_fits both.3,
+          calls_are laws defs v values region s addresses st fold.names (calls body.by) body.inds both.1 body.calls_fit both.4,
         )
 
 pub fold_ind : FoldLaws → LawOfFoldInd
-fold_ind laws defs pred rule nodes block edges s next bounded i =
+fold_ind laws defs fold s next bounded i =
     let body = i.body in
     let calls : Rule → List Call = λ r. r.calls in
-    let lawful = folded_lawful laws defs s (option_to_list block ++ edges) (body.blocks ++ body.inds) body.left (Ind body.this pred body.args) bounded body.picks (front_there laws defs s pred rule nodes block edges calls body)
+    let lawful = folded_lawful laws defs s (option_to_list fold.block ++ fold.edges) (body.blocks ++ body.inds) body.left (Ind body.this fold.pred body.args) bounded body.picks (front_there laws defs s fold calls body)
     (λ v values region part addresses st each.
-    let is = body_is laws defs s pred rule nodes block edges calls body v values region addresses st part each in
-    laws.folds defs pred (v body.this.0) (map (at_node v) body.args) part (by_rule laws defs s pred rule nodes block edges calls body v values region addresses st, is.0, is.1, is.2, is.3, is.4)) in
+    let is = body_is laws defs s fold calls body v values region addresses st part each in
+    laws.folds defs fold.pred (v body.this.0) (map (at_node v) body.args) part (by_rule laws defs s fold calls body v values region addresses st, is.0, is.1, is.2, is.3, is.4)) in
     rw i.gives lawful
 
 pub fold_seg : FoldLaws → LawOfFoldSeg
-fold_seg laws defs pred rule nodes block edges call s next bounded i =
+fold_seg laws defs fold s next bounded i =
     let body = i.body in
-    let calls : Rule → List Call = λ r. remove r.calls call in
-    let new : Edge = Seg body.this body.args pred (node_of nodes i.open_call.at) (map (node_of nodes) i.open_call.args) in
-    let front = front_there laws defs s pred rule nodes (Some block) edges calls body in
-    let lawful = folded_lawful laws defs s (block ∷ edges) (body.blocks ++ body.inds) body.left new bounded body.picks
-    (front.0, all_append (IsNode s.kinds) body.args (node_of nodes i.open_call.at ∷ map (node_of nodes) i.open_call.args) front.1 (called_there laws defs s pred rule nodes (Some block) edges calls body i.open_call))
+    let calls : Rule → List Call = λ r. remove r.calls fold.call in
+    let new : Edge = Seg body.this body.args fold.pred (node_of fold.names i.open_call.at) (map (node_of fold.names) i.open_call.args) in
+    let front = front_there laws defs s (as_ind fold) calls body in
+    let lawful = folded_lawful laws defs s (fold.block ∷ fold.edges) (body.blocks ++ body.inds) body.left new bounded body.picks
+    (front.0, all_append (IsNode s.kinds) body.args (node_of fold.names i.open_call.at ∷ map (node_of fold.names) i.open_call.args) front.1 (called_there laws defs s (as_ind fold) calls body i.open_call))
     (λ v values region part addresses st each.
-    let is = body_is laws defs s pred rule nodes (Some block) edges calls body v values region addresses st part each in
-    let by = by_rule laws defs s pred rule nodes (Some block) edges calls body v values region addresses st in
-    let seg = laws.of_body defs pred (v body.this.0) (map (at_node v) body.args) part is.0 is.1 by call i.open_call i.called i.own is.2 is.3 is.4 in
-    rw (← (name_value v nodes st.null i.open_call.at), ← (name_values v nodes st.null i.open_call.args)) seg) in
+    let is = body_is laws defs s (as_ind fold) calls body v values region addresses st part each in
+    let by = by_rule laws defs s (as_ind fold) calls body v values region addresses st in
+    let seg = laws.of_body defs fold.pred (v body.this.0) (map (at_node v) body.args) part is.0 is.1 by fold.call i.open_call i.called i.own is.2 is.3 is.4 in
+    rw (← (name_value v fold.names st.null i.open_call.at), ← (name_values v fold.names st.null i.open_call.args)) seg) in
     rw i.gives lawful

@@ -74,16 +74,6 @@ kinds_there kinds [] (n ∷ nodes) has = absurd has
 kinds_there kinds (kind ∷ names) [] has = absurd has
 kinds_there kinds (kind ∷ names) (n ∷ nodes) has = ((kind, has.0), kinds_there kinds names nodes has.1)
 
--- and so are the nodes of names
-pub name_there : (kinds : Kinds) (nodes : List NodeId) (name : ℕ) → AreNodes kinds nodes → IsNode kinds (node_of nodes name)
-name_there kinds [] name a = (Ptr, inl refl)
-name_there kinds (n ∷ nodes) zero a = a.0
-name_there kinds (n ∷ nodes) (suc name) a = name_there kinds nodes name a.1
-
-pub names_there : (kinds : Kinds) (nodes : List NodeId) (names : List ℕ) → AreNodes kinds nodes → AreNodes kinds (map (node_of nodes) names)
-names_there kinds nodes [] a = tt
-names_there kinds nodes (name ∷ names) a = (name_there kinds nodes name a, names_there kinds nodes names a)
-
 -- numbers of nodes stay below the next one
 kinds_below : (low high : ℕ) (kinds : Kinds) → NodesAscend low kinds high → AllByRecursion (λ k. k.0.0 < high) kinds
 kinds_below low high [] a = tt

@@ -100,7 +100,7 @@ after_is s t n f =
     ∙ ap (λ m. record { env = s.env; kinds = kinds_without s.kinds n; graph = s.graph; atoms = t.atoms; next = m; whole = t.whole }) f.next
     ∙ ap (λ b. record { env = s.env; kinds = kinds_without s.kinds n; graph = s.graph; atoms = t.atoms; next = s.next; whole = b }) f.whole
 
--- what is written after was derived before
+-- what is written after was entailed before
 was_derived : (s t : State) (n : NodeId) → Forgets n s t → (place : ℕ) (a : Atom) → slice_get t.atoms place ≡ Some a → Derives s a
 was_derived s t n f place a e = ((f.derived a).0 (pure.base (known.written place e))).0
 

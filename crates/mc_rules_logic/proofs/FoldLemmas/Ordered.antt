@@ -97,7 +97,7 @@ first_same x y xs ys o p c d = elim (among_cases y ys x c) [
   ]
 ]
 
--- what one list has behind its first atom, the other has behind the same
+-- what one list has after its first atom, the other has after the same
 rest_same : (x y : Atom) (xs ys : List Atom) → x ≡ y → AreInOrder (x ∷ xs) → (z : Atom) → Contains xs z → Contains (y ∷ ys) z → Contains ys z
 rest_same x y xs ys same o z c d = elim (among_cases y ys z d) [
   | inl e ↦ absurd (before_itself z (subst (λ w. ComesBefore w z) (same ∙ e) (before_all x xs o z c)))

@@ -21,6 +21,7 @@ use Rattle.mc_state.specs.CoverExamples.{cell_and_list, segment_and_list, fork_a
 use Rattle.mc_state.specs.State.{State, pure_of}
 use Rattle.mc_state.specs.Known.{Test, Tells, is_false, equal, has_kind}
 use Rattle.mc_state.proofs.Tests.{is_sound, equal_to}
+use Rattle.mc_rules_logic.specs.Fold.Folded.{ind_fold, seg_fold}
 use Rattle.mc_rules_logic.specs.Fold.ChangeJudges.{is_there, naming_spare, merging_nodes, dropping_edge, forgetting_node}
 use Rattle.mc_rules_logic.specs.Fold.Examples.{edge, valued, two_segments, pointer, small_number, named_twice, lost_list, other_length, list_apart, pointed_list, list_goal, null_goal, tree_goal, false_pointer, cell_unknown, other_defs, pointed_node}
 use Rattle.mc_rules_logic.specs.Fold.Judges.{folding_ind, folding_seg, closing_seg, joining_segs, making_seg, meeting_goal}
@@ -32,7 +33,7 @@ kind_true : (v : Valuation) (n : NodeId) (kind : Kind) → InKind kind (v n.0) �
 kind_true v n Int h = h
 kind_true v n Ptr h = h
 
-place_below : {X : Type 0} (xs : List X) (i : ℕ) (x : X) → slice_get xs i ≡ Some x → i < length xs
+pub place_below : {X : Type 0} (xs : List X) (i : ℕ) (x : X) → slice_get xs i ≡ Some x → i < length xs
 place_below [] i x e = absurd (cc e)
 place_below (y ∷ ys) zero x e = omega arith
 place_below (y ∷ ys) (suc i) x e = let rest = place_below ys i x e in omega arith
@@ -54,7 +55,7 @@ and_false : (a : Bool) → (a && false) ≡ false
 and_false true = refl
 and_false false = refl
 
-not_true : (b : Bool) → (b ≡ true → ⊥) → b ≡ false
+pub not_true : (b : Bool) → (b ≡ true → ⊥) → b ≡ false
 not_true true n = absurd (n refl)
 not_true false n = refl
 
@@ -274,21 +275,21 @@ module _ (truth : DerivedIsTrue) (sound : TrueIsNotFalse) where
 
     -- ---- folding
 
-    pub fold_no_block : folding_ind know defs list_id 1 (node 1 ∷ node 2 ∷ node 3 ∷ []) None (edge 1 ∷ []) cell_and_list ≡ Err 4
+    pub fold_no_block : folding_ind know defs (ind_fold list_id 1 (node 1 ∷ node 2 ∷ node 3 ∷ []) None (edge 1 ∷ [])) cell_and_list ≡ Err 4
     unfolding has_kind
     fold_no_block = rw (passes cell_and_list at_seven cell_fits know tells) refl
 
-    pub fold_kind : folding_ind know defs list_id 1 (node 1 ∷ node 1 ∷ node 3 ∷ []) (Some (edge 0)) (edge 1 ∷ []) cell_and_list ≡ Err 4
+    pub fold_kind : folding_ind know defs (ind_fold list_id 1 (node 1 ∷ node 1 ∷ node 3 ∷ []) (Some (edge 0)) (edge 1 ∷ [])) cell_and_list ≡ Err 4
     unfolding has_kind
     fold_kind = rw (passes cell_and_list at_seven cell_fits know tells) refl
 
-    pub fold_elsewhere : folding_ind know defs list_id 1 (node 3 ∷ node 2 ∷ node 3 ∷ []) (Some (edge 0)) (edge 1 ∷ []) cell_and_list ≡ Err 5
+    pub fold_elsewhere : folding_ind know defs (ind_fold list_id 1 (node 3 ∷ node 2 ∷ node 3 ∷ []) (Some (edge 0)) (edge 1 ∷ [])) cell_and_list ≡ Err 5
     unfolding has_kind
     fold_elsewhere =
         let differ : know (Eq (node 3) (node 1) (pos 0)) ≡ false = unknown cell_and_list at_seven cell_fits know tells (Eq (node 3) (node 1) (pos 0)) (λ t. let wrong : pos 9 ≡ pos 7 = t in cc wrong) in
         rw (passes cell_and_list at_seven cell_fits know tells) (rw differ refl)
 
-    pub fold_other_call : folding_seg know other_defs lenlist_id 0 (node 1 ∷ node 2 ∷ node 3 ∷ []) (edge 0) [] 0 cell_and_list ≡ Err 4
+    pub fold_other_call : folding_seg know other_defs (seg_fold lenlist_id 0 (node 1 ∷ node 2 ∷ node 3 ∷ []) (edge 0) [] 0) cell_and_list ≡ Err 4
     fold_other_call = rw (passes cell_and_list at_seven cell_fits know tells) refl
 
   unknown_fits : IsTrue at_seven (pure_of cell_unknown)
@@ -297,7 +298,7 @@ module _ (truth : DerivedIsTrue) (sound : TrueIsNotFalse) where
       ((omega (arith, ints), omega (arith, ints)), ((omega (arith, ints), omega (arith, ints)), ((omega (arith, ints), omega (arith, ints)), tt))) tt
       ((omega (arith, ints), omega (arith, ints)), tt) (omega arith)
 
-  pub fold_unknown : (know : Test) → Tells know cell_unknown → folding_ind know defs list_id 1 (node 1 ∷ node 2 ∷ node 3 ∷ []) (Some (edge 0)) (edge 1 ∷ []) cell_unknown ≡ Err 5
+  pub fold_unknown : (know : Test) → Tells know cell_unknown → folding_ind know defs (ind_fold list_id 1 (node 1 ∷ node 2 ∷ node 3 ∷ []) (Some (edge 0)) (edge 1 ∷ [])) cell_unknown ≡ Err 5
   unfolding has_kind
   fold_unknown know tells =
       let one = same cell_unknown at_seven unknown_fits know tells (node 1) (Ptr, inr refl) in
@@ -314,34 +315,34 @@ module _ (truth : DerivedIsTrue) (sound : TrueIsNotFalse) where
   forks = node 1 ∷ node 2 ∷ node 3 ∷ []
 
   module _ (know : Test) (tells : Tells know fork_and_tree) where
-    pub fold_twice : folding_ind know defs tree_id 1 forks (Some (edge 1)) (edge 2 ∷ edge 2 ∷ []) fork_and_tree ≡ Err 3
+    pub fold_twice : folding_ind know defs (ind_fold tree_id 1 forks (Some (edge 1)) (edge 2 ∷ edge 2 ∷ [])) fork_and_tree ≡ Err 3
     fold_twice = rw (passes fork_and_tree (valued (pos 7 ∷ pos 9 ∷ [])) fork_fits know tells) refl
 
-    pub fold_block_twice : folding_ind know defs tree_id 1 forks (Some (edge 1)) (edge 1 ∷ edge 2 ∷ []) fork_and_tree ≡ Err 3
+    pub fold_block_twice : folding_ind know defs (ind_fold tree_id 1 forks (Some (edge 1)) (edge 1 ∷ edge 2 ∷ [])) fork_and_tree ≡ Err 3
     fold_block_twice = rw (passes fork_and_tree (valued (pos 7 ∷ pos 9 ∷ [])) fork_fits know tells) refl
 
-    pub fold_absent : folding_ind know defs tree_id 1 forks (Some (edge 1)) (edge 2 ∷ edge 3 ∷ []) fork_and_tree ≡ Err 3
+    pub fold_absent : folding_ind know defs (ind_fold tree_id 1 forks (Some (edge 1)) (edge 2 ∷ edge 3 ∷ [])) fork_and_tree ≡ Err 3
     fold_absent = rw (passes fork_and_tree (valued (pos 7 ∷ pos 9 ∷ [])) fork_fits know tells) refl
 
-    pub fold_fewer : folding_ind know defs tree_id 1 forks (Some (edge 1)) (edge 2 ∷ []) fork_and_tree ≡ Err 4
+    pub fold_fewer : folding_ind know defs (ind_fold tree_id 1 forks (Some (edge 1)) (edge 2 ∷ [])) fork_and_tree ≡ Err 4
     unfolding has_kind
     fold_fewer = rw (passes fork_and_tree (valued (pos 7 ∷ pos 9 ∷ [])) fork_fits know tells) refl
 
-    pub fold_bare : folding_ind know defs tree_id 1 forks None (edge 2 ∷ []) fork_and_tree ≡ Err 4
+    pub fold_bare : folding_ind know defs (ind_fold tree_id 1 forks None (edge 2 ∷ [])) fork_and_tree ≡ Err 4
     unfolding has_kind
     fold_bare = rw (passes fork_and_tree (valued (pos 7 ∷ pos 9 ∷ [])) fork_fits know tells) refl
 
-    pub fold_block : folding_ind know defs tree_id 0 (node 2 ∷ []) (Some (edge 1)) [] fork_and_tree ≡ Err 4
+    pub fold_block : folding_ind know defs (ind_fold tree_id 0 (node 2 ∷ []) (Some (edge 1)) []) fork_and_tree ≡ Err 4
     unfolding has_kind
     fold_block = rw (passes fork_and_tree (valued (pos 7 ∷ pos 9 ∷ [])) fork_fits know tells) refl
 
-    pub fold_no_rule : folding_ind know defs tree_id 2 forks (Some (edge 1)) (edge 2 ∷ []) fork_and_tree ≡ Err 4
+    pub fold_no_rule : folding_ind know defs (ind_fold tree_id 2 forks (Some (edge 1)) (edge 2 ∷ [])) fork_and_tree ≡ Err 4
     fold_no_rule = rw (passes fork_and_tree (valued (pos 7 ∷ pos 9 ∷ [])) fork_fits know tells) refl
 
     own : (n : NodeId) → IsNode fork_and_tree.kinds n → know (Eq n n (pos 0)) ≡ true
     own n there = same fork_and_tree (valued (pos 7 ∷ pos 9 ∷ [])) fork_fits know tells n there
 
-    pub fold_list : folding_ind know defs tree_id 1 forks (Some (edge 1)) (edge 2 ∷ edge 0 ∷ []) fork_and_tree ≡ Err 6
+    pub fold_list : folding_ind know defs (ind_fold tree_id 1 forks (Some (edge 1)) (edge 2 ∷ edge 0 ∷ [])) fork_and_tree ≡ Err 6
     unfolding has_kind
     fold_list =
         let one = own (node 1) (Ptr, inr refl) in
@@ -349,15 +350,15 @@ module _ (truth : DerivedIsTrue) (sound : TrueIsNotFalse) where
         let three = own (node 3) (Ptr, inr refl) in
         rw (passes fork_and_tree (valued (pos 7 ∷ pos 9 ∷ [])) fork_fits know tells) (rw one (rw two (rw three refl)))
 
-    pub fold_not_null : folding_ind know defs tree_id 0 (node 1 ∷ []) None [] fork_and_tree ≡ Err 7
+    pub fold_not_null : folding_ind know defs (ind_fold tree_id 0 (node 1 ∷ []) None []) fork_and_tree ≡ Err 7
     unfolding has_kind
     fold_not_null =
         let differ : know (Eq (node 1) null (pos 0)) ≡ false = unknown fork_and_tree (valued (pos 7 ∷ pos 9 ∷ [])) fork_fits know tells (Eq (node 1) null (pos 0)) (λ t. let wrong : pos 7 ≡ pos 0 = t in cc wrong) in
         rw (passes fork_and_tree (valued (pos 7 ∷ pos 9 ∷ [])) fork_fits know tells) (rw differ refl)
 
-    pub fold_no_call : folding_seg know defs tree_id 1 forks (edge 1) (edge 2 ∷ []) 2 fork_and_tree ≡ Err 4
+    pub fold_no_call : folding_seg know defs (seg_fold tree_id 1 forks (edge 1) (edge 2 ∷ []) 2) fork_and_tree ≡ Err 4
     fold_no_call = rw (passes fork_and_tree (valued (pos 7 ∷ pos 9 ∷ [])) fork_fits know tells) refl
 
-    pub fold_all_calls : folding_seg know defs tree_id 1 forks (edge 1) (edge 2 ∷ edge 0 ∷ []) 1 fork_and_tree ≡ Err 4
+    pub fold_all_calls : folding_seg know defs (seg_fold tree_id 1 forks (edge 1) (edge 2 ∷ edge 0 ∷ []) 1) fork_and_tree ≡ Err 4
     unfolding has_kind
     fold_all_calls = rw (passes fork_and_tree (valued (pos 7 ∷ pos 9 ∷ [])) fork_fits know tells) refl

@@ -14,10 +14,10 @@ use Rattle.mc_state.specs.Fits.{AreNodes, ArgsFit}
 use Rattle.mc_state.specs.Stands.{EdgeMeets}
 use Rattle.mc_state.specs.State.{with_edges}
 use Rattle.mc_rules_logic.specs.Fold.Laws.{LawOfCloseSeg, LawOfJoinSegs, LawOfEmptySeg}
-use Rattle.mc_rules_logic.proofs.FoldLemmas.Lists.{all_append, all_left, all_right}
 use Rattle.mc_rules_logic.proofs.FoldLemmas.Names.{kinds_there}
 use Rattle.mc_rules_logic.proofs.FoldLemmas.Parts.{nowhere-IsEmpty, none_left, star_one, one_star}
 use Rattle.mc_rules_logic.proofs.FoldLemmas.Standing.{FoldLaws, one_value, folded_lawful}
+use Rattle.mc_state.proofs.Lists.{all_append, all_left, all_right}
 
 pub close_seg : FoldLaws → LawOfCloseSeg
 close_seg laws defs first second s next bounded i =

@@ -10,27 +10,12 @@ use Rattle.mc_flow.specs.Defs.Examples.{defs, list_id, lenlist_id, tree_id, null
 use Rattle.mc_flow.specs.Defs.Meaning.{RuleValues, SatAt, Sat}
 use Rattle.mc_rules_logic.specs.Fold.Examples.{second_fork}
 use Rattle.mc_rules_logic.proofs.FoldLemmas.Parts.{PartLaws, nowhere-IsEmpty, none_left, none_right}
+use Rattle.mc_flow.proofs.DefsLemmas.SmallHeaps.{leaf_by}
 
 -- a block at a free address is a part before the others
 pub block_before : InsertChanges → CellIsAdded → (at : ℕ) (block : Block) (others : List (ℕ × Block)) → blocks others at ≡ None
     → (part : Region) × Split (blocks ((at, block) ∷ others)) part (blocks others) × IsCell part at block
 block_before insert added at block others none = added (blocks others) (blocks ((at, block) ∷ others)) at block none (insert (finmap.from_entries others) at block)
-
-abbrev leaf_by : RuleValues defs tree_id (pos 0) []
-leaf_by =
-    record {
-      def = tree_def;
-      defined = refl;
-      rule = null_rule;
-      place = 0;
-      listed = refl;
-      names = pos 0 ∷ [];
-      kinds = ((omega (arith, ints), omega (arith, ints)), tt);
-      count = refl;
-      others = [];
-      front = refl;
-      atoms = (refl, tt);
-    }
 
 abbrev fork_by : RuleValues defs tree_id (pos 9) []
 fork_by =

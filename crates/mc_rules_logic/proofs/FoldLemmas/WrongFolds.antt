@@ -20,6 +20,7 @@ use Rattle.mc_state.specs.Laws.{NoneStandsForFalse}
 use Rattle.mc_state.specs.Rules.{StandsForSome}
 use Rattle.mc_state.specs.Stands.{EdgeMeets, Parts, StandsBy}
 use Rattle.mc_state.specs.State.{State}
+use Rattle.mc_rules_logic.specs.Fold.Folded.{ind_fold}
 use Rattle.mc_rules_logic.specs.Fold.Changed.{DropsEdge}
 use Rattle.mc_rules_logic.specs.Fold.Examples.{edge, valued, shared_tree, shared_folded, other_length, length_closed, lost_list, list_dropped, second_fork}
 use Rattle.mc_rules_logic.specs.Fold.WrongRules.{SharedFoldIsSound, ClosingAnyArgsIsSound, DroppingKeepsWhole}
@@ -85,7 +86,7 @@ module _ (laws : PartLaws) (empty : EmptyHeapIsEmpty) (insert : InsertChanges) (
       let addresses = shared_addresses none in
       let v = valued (pos 7 ∷ pos 9 ∷ []) in
       let some =
-      sound defs tree_id 1 (node 1 ∷ node 2 ∷ node 2 ∷ []) (Some (edge 0)) (edge 1 ∷ edge 1 ∷ []) shared_tree (shared_folded ∷ []) bounded_shared
+      sound defs (ind_fold tree_id 1 (node 1 ∷ node 2 ∷ node 2 ∷ []) (Some (edge 0)) (edge 1 ∷ edge 1 ∷ [])) shared_tree (shared_folded ∷ []) bounded_shared
       (record {
         consistent = λ wrong. not_false defs [] (blocks shared_fork) shared_tree addresses (v, shared_stands) wrong;
         blocks = Block (node 1) fork_id (Some (node 2) ∷ Some (node 2) ∷ []) ∷ [];

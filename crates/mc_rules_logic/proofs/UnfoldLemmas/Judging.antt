@@ -31,7 +31,7 @@ ind_is (Some (Ind at pred args)) i e =
     ap (λ (i : AnyInd). Some (Ind i.at i.pred i.args)) same
 
 -- and one with the parts of a Seg is that Seg
-seg_is : (o : Option Edge) (g : SegParts) → seg_of o ≡ Some g → o ≡ Some (Seg g.at g.args g.pred g.stop g.ends)
+pub seg_is : (o : Option Edge) (g : SegParts) → seg_of o ≡ Some g → o ≡ Some (Seg g.at g.args g.pred g.stop g.ends)
 seg_is None g e = absurd (cc e)
 seg_is (Some (Block at shape fields)) g e = absurd (cc e)
 seg_is (Some (Ind at pred args)) g e = absurd (cc e)
@@ -48,14 +48,14 @@ edge_fits P (x ∷ es) id e there all = at (λ is. edge_fits P es id e is all.1)
     at rest true is = let same : x.1 ≡ e = cc is in subst P same all.0
     at rest false is = rest is
 
-or_true : (a b : Bool) → (a || b) ≡ true → (a ≡ true) ⊎ (b ≡ true)
+pub or_true : (a b : Bool) → (a || b) ≡ true → (a ≡ true) ⊎ (b ≡ true)
 or_true true b e = inl refl
 or_true false b e = inr e
 
-or_left : (a b : Bool) → a ≡ true → (a || b) ≡ true
+pub or_left : (a b : Bool) → a ≡ true → (a || b) ≡ true
 or_left a b e = ap (λ x. x || b) e
 
-or_right : (a b : Bool) → b ≡ true → (a || b) ≡ true
+pub or_right : (a b : Bool) → b ≡ true → (a || b) ≡ true
 or_right true b e = refl
 or_right false b e = e
 

@@ -24,7 +24,7 @@ use Rattle.mc_state.specs.Laws.{NodesStayBounded, NewNodesHaveKinds, AtomsStayBo
 use Rattle.mc_state.specs.State.{with_nodes}
 use Rattle.mc_rules_logic.specs.Unfold.WellMade.{EdgeFits, NodesKeepWellMade, EdgesKeepWellMade, AtomsKeepWellMade, FewerKeepWellMade, EdgeOfFitting}
 use Rattle.mc_rules_logic.proofs.UnfoldLemmas.Judging.{edge_fits}
-use Rattle.mc_rules_logic.proofs.UnfoldLemmas.Lists.{all_append, all_map}
+use Rattle.mc_state.proofs.Lists.{all_append, all_map}
 
 -- ---- where there are more nodes
 module _ (small big : Kinds) (more : (kind : Kind) (n : NodeId) → HasKind small kind n → HasKind big kind n) where

@@ -27,9 +27,9 @@ use Rattle.mc_rules_logic.specs.Unfold.Unfolded.{new_kinds, rule_nodes, opened, 
 use Rattle.mc_rules_logic.specs.Unfold.WellMade.{EdgeFits, NodesKeepWellMade, EdgesKeepWellMade, AtomsKeepWellMade, FewerKeepWellMade, EmptiedIsWellMade, RuleIsMade, IndMakesWellMade, SegMakesWellMade}
 use Rattle.mc_rules_logic.proofs.UnfoldLemmas.Judging.{edge_fits}
 use Rattle.mc_rules_logic.proofs.UnfoldLemmas.Keeping.{have_more, args_more}
-use Rattle.mc_rules_logic.proofs.UnfoldLemmas.Lists.{all_append}
 use Rattle.mc_rules_logic.proofs.UnfoldLemmas.Places.{own_places_own}
 use Rattle.mc_rules_logic.proofs.UnfoldLemmas.RulesMade.{rule_fits, rules_made, equals_formed}
+use Rattle.mc_state.proofs.Lists.{all_append}
 
 -- what the proofs of this file rest on
 pub record KeepLaws : Type 0 where

@@ -41,7 +41,7 @@ numbers_count [] (z ∷ numbers) t = absurd t
 numbers_count (kind ∷ kinds) [] t = absurd t
 numbers_count (kind ∷ kinds) (z ∷ numbers) t = ap suc (numbers_count kinds numbers t.1)
 
--- and behind some of them for each other one
+-- and after some of them for each other one
 pub numbers_behind : (front rest : List ℤ) (kinds : List Kind) → InKinds kinds (front ++ rest) → InKinds (drop (length front) kinds) rest
 numbers_behind [] rest kinds t = t
 numbers_behind (z ∷ front) rest [] t = absurd t

@@ -31,8 +31,9 @@ use Rattle.mc_state.specs.Laws.{NodesAreAdded, NodesHaveValues, AtomsAreAdded, E
 use Rattle.mc_state.specs.Stands.{EdgeMeets, StandsBy, AgreeBelow, extended}
 use Rattle.mc_state.specs.State.{State, numbered_nodes, with_nodes, with_edges, with_only_edges}
 use Rattle.mc_rules_logic.specs.Unfold.Unfolded.{new_kinds, rule_nodes, opened}
-use Rattle.mc_rules_logic.proofs.UnfoldLemmas.Lists.{all_append, all_map, all_images}
+use Rattle.mc_rules_logic.proofs.UnfoldLemmas.Lists.{all_images}
 use Rattle.mc_rules_logic.proofs.UnfoldLemmas.Names.{atoms_true, numbers_count, numbers_behind, node_below, name_there, names_there, atom_there}
+use Rattle.mc_state.proofs.Lists.{all_append, all_map}
 
 -- what the rules that unfold rest on
 pub record UnfoldLaws : Type 0 where

@@ -8,7 +8,7 @@ use Rattle.mc_flow.specs.Heap.Parts.{StarAt}
 use Rattle.mc_flow.specs.declared.defs.rules.Call.{Call}
 use Rattle.mc_rules_logic.specs.Unfold.RuleLaws.{OwnPlaceIsListed, IsOwnPlace, OwnPlacesAreOwn}
 use Rattle.mc_rules_logic.specs.Unfold.Unfolded.{own_places}
-use Rattle.mc_rules_logic.proofs.UnfoldLemmas.Lists.{all_append, all_map}
+use Rattle.mc_state.proofs.Lists.{all_append, all_map}
 
 in_front : {Y : Type 0} (xs ys : List Y) (place : ℕ) (y : Y) → slice_get xs place ≡ Some y → slice_get (xs ++ ys) place ≡ Some y
 in_front [] ys place y e = cc

@@ -23,20 +23,10 @@ use Rattle.mc_state.specs.Fits.{HaveKinds, MayHaveKinds, EdgeFitsDefs}
 use Rattle.mc_rules_logic.specs.Unfold.RuleLaws.{RuleOfFitting}
 use Rattle.mc_rules_logic.specs.Unfold.Unfolded.{equal_atoms}
 use Rattle.mc_rules_logic.specs.Unfold.WellMade.{EdgeFits, EqualsAreFormed, RulesAreMade}
+use Rattle.mc_flow.proofs.DefsLemmas.SomeStructs.{all_at, all_head, all_tail, known_grows}
 
 -- ---- lists
 module _ {A : Type 0} where
-  all_tail : (P : A → Type 0) (x : A) (xs : List A) → All P (x ∷ xs) → All P xs
-  all_tail P x xs a = λ k d lt. a (suc k) d (omega arith)
-
-  all_head : (P : A → Type 0) (x : A) (xs : List A) → All P (x ∷ xs) → P x
-  all_head P x xs a = a 0 x (omega arith)
-
-  pub all_at : (P : A → Type 0) (xs : List A) (i : ℕ) (x : A) → slice_get xs i ≡ Some x → All P xs → P x
-  all_at P [] i x e a = cc
-  all_at P (y ∷ ys) zero x e a = let is : y ≡ x = cc in subst P is (all_head P y ys a)
-  all_at P (y ∷ ys) (suc i) x e a = all_at P ys i x e (all_tail P y ys a)
-
   all_of : (P Q : A → Type 0) → ((x : A) → P x → Q x) → (xs : List A) → All P xs → AllByRecursion Q xs
   all_of P Q f [] a = tt
   all_of P Q f (x ∷ xs) a = (f x (all_head P x xs a), all_of P Q f xs (all_tail P x xs a))
@@ -52,12 +42,6 @@ offset_fits Ptr add f = subst IsOffset (sym f) small_offset
 bounds_fit : (lo hi : ℤ) → BoundsFit lo hi → IsBound lo × IsBound hi
 bounds_fit lo hi (inl b) = let low = b.0 in let least = b.1.0 in let most = b.1.1 in ((omega (arith, ints), omega (arith, ints)), (omega (arith, ints), omega (arith, ints)))
 bounds_fit lo hi (inr b) = let least = b.0.0 in let most = b.0.1 in let high = b.1 in ((omega (arith, ints), omega (arith, ints)), (omega (arith, ints), omega (arith, ints)))
-
-known_grows : (known : ℕ) (a : DefAtom) → known ≤ known_after known a
-known_grows known (Eq left base add true) = omega arith
-known_grows known (Eq left base add false) = omega arith
-known_grows known (Ne left base add) = omega arith
-known_grows known (In left lo hi) = omega arith
 
 names_enough : (names : List Kind) (known : ℕ) (atoms : List DefAtom) → AtomsFit names known atoms → known ≤ length names
 names_enough names known [] f = let all : known ≡ length names = f in omega arith

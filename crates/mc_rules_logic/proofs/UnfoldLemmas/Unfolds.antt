@@ -25,9 +25,10 @@ use Rattle.mc_state.specs.Stands.{EdgeMeets, StandsBy}
 use Rattle.mc_state.specs.State.{State}
 use Rattle.mc_rules_logic.specs.Unfold.Unfolded.{new_kinds, rule_nodes, unfolded, unfolded_at, equal_atoms, emptied, own_places}
 use Rattle.mc_rules_logic.specs.Unfold.Laws.{LawOfInd, LawOfSeg}
-use Rattle.mc_rules_logic.proofs.UnfoldLemmas.Lists.{all_left, all_right, all_map, all_images}
+use Rattle.mc_rules_logic.proofs.UnfoldLemmas.Lists.{all_images}
 use Rattle.mc_rules_logic.proofs.UnfoldLemmas.Openings.{UnfoldLaws, closed, values_stay, new, agrees, new_zero, names_are, opened_stands, body_there, body_to_there, wide, nodes_there, opened_bounded}
 use Rattle.mc_rules_logic.proofs.UnfoldLemmas.Places.{image_at, in_pieces, all_pieces, own_place}
+use Rattle.mc_state.proofs.Lists.{all_left, all_map, all_right}
 
 -- a list of one thing has the whole region
 alone : (laws : UnfoldLaws) {A : Type 0} (M : A → Region → Type 0) (x : A) (region : Region) → Star M (x ∷ []) region → M x region

@@ -9,7 +9,7 @@ use Rattle.mc_base.specs.declared.plain.Kind.TheVariants.{Ptr}
 use Rattle.mc_base.specs.Nodes.{Valuation}
 use Rattle.mc_flow.specs.Heap.Heap.{Block, Region, IsAtAddresses}
 use Rattle.mc_flow.specs.Heap.Instances.{nowhere}
-use Rattle.mc_flow.specs.Heap.Parts.{Joins, Split, IsEmpty, IsCell}
+use Rattle.mc_flow.specs.Heap.Parts.{IsEmpty, IsCell}
 use Rattle.mc_flow.specs.Heap.PartLaws.{SplitCommutes, SplitAddsEmpty, EmptyHeapIsEmpty, InsertChanges, InsertKeepsAddresses}
 use Rattle.mc_flow.specs.declared.defs.rules.Def.{Def}
 use Rattle.mc_flow.specs.declared.defs.rules.Rule.{Rule}
@@ -29,14 +29,8 @@ use Rattle.mc_rules_logic.specs.Unfold.Examples.{edge, one_segment, no_segment, 
 use Rattle.mc_rules_logic.specs.Unfold.Unfolded.{UnfoldsSeg}
 use Rattle.mc_rules_logic.specs.Unfold.WrongRules.{IsSoundRule, NeverEmpty, FirstCallOnly}
 use Rattle.mc_rules_logic.proofs.UnfoldLemmas.ExampleStates.{nowhere-IsEmpty, none_left, none_right, segment_stands}
-
--- what a part holds, the whole holds
-joins_some : (x r : Option Block) (b : Block) → Joins x (Some b) r → x ≡ Some b
-joins_some x None b j = j
-joins_some x (Some c) b j = absurd j
-
-inside : (whole left right : Region) (at : ℕ) (b : Block) → Split whole left right → left at ≡ Some b → whole at ≡ Some b
-inside whole left right at b split e = joins_some (whole at) (right at) b (subst (λ l. Joins (whole at) l (right at)) e (split.joins at))
+use Rattle.mc_flow.proofs.DefsLemmas.SmallHeaps.{leaf_by}
+use Rattle.mc_rules_logic.proofs.BackLemmas.ExampleStates.{inside, one_of_one}
 
 -- no cell is in nothing
 no_cell_there : (w : Valuation) → IsEmpty (blocks []) → StandsBy defs w [] (blocks []) cell_then_segment → ⊥
@@ -48,10 +42,6 @@ no_cell_there w empty st =
     let there = inside (blocks []) p.held p.rest at _ p.split here in
     let none = empty.none at in
     cc
-
-one_of_one : (s t : State) (place : ℕ) → slice_get (s ∷ []) place ≡ Some t → s ≡ t
-one_of_one s t zero e = cc
-one_of_one s t (suc place) e = absurd (cc e)
 
 bounded_segment : IsBounded one_segment
 bounded_segment =
@@ -96,22 +86,6 @@ tree_at_nine unfolds region sat =
           let place : block.0 ≡ 9 = cc (block.1, first) in
           (_, ap region (sym place) ∙ inside region body.1 body.2 block.0 _ body.3 block.2.here)
     ]
-
-abbrev leaf_by : RuleValues defs tree_id (pos 0) []
-leaf_by =
-    record {
-      def = tree_def;
-      defined = refl;
-      rule = null_rule;
-      place = 0;
-      listed = refl;
-      names = pos 0 ∷ [];
-      kinds = ((omega (arith, ints), omega (arith, ints)), tt);
-      count = refl;
-      others = [];
-      front = refl;
-      atoms = (refl, tt);
-    }
 
 abbrev fork_by : RuleValues defs tree_id (pos 7) []
 fork_by =

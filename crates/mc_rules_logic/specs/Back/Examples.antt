@@ -86,7 +86,7 @@ seven_and_nine n = get_or (pos 0 ∷ pos 7 ∷ pos 9 ∷ pos 7 ∷ pos 9 ∷ [])
 abbrev pub four_pointers : Kinds
 four_pointers = (node 1, Ptr) ∷ (node 2, Ptr) ∷ (node 3, Ptr) ∷ (node 4, Ptr) ∷ []
 
--- a segment of a doubly linked list, from node 1 behind node 2 to node 3 behind node 4
+-- a segment of a doubly linked list, from node 1 after node 2 to node 3 after node 4
 abbrev pub dll_segment : State
 dll_segment = state_of four_pointers (Seg (node 1) (node 2 ∷ []) dll_id (node 3) (node 4 ∷ []) ∷ []) []
 
@@ -102,7 +102,7 @@ dll_emptied =
       whole = true;
     }
 
--- a segment to a block, node 5 behind node 6, whose next is node 3 and which is node 4
+-- a segment to a block, node 5 after node 6, whose next is node 3 and which is node 4
 abbrev pub segment_then_node : State
 segment_then_node =
     record {

@@ -50,7 +50,7 @@ alone t = record { kinds = t.kinds; written = t.atoms; starts = [] }
 abbrev pub left_over : State → NodeId → List Atom → State
 left_over s n atoms = record s { kinds = kinds_without s.kinds n; atoms = atoms }
 
--- the state without a node: the atoms that are written now derive, with the kinds alone, exactly those that were derived
+-- the state without a node: the atoms that are written now derive, with the kinds alone, exactly those that were entailed
 -- and do not name it, and they are the canonical list of what they derive, with the disequalities inside one class
 pub record Forgets (node : NodeId) (s t : State) : Type 0 where
   pub env : t.env ≡ s.env

@@ -7,14 +7,18 @@ use Rattle.mc_base.specs.declared.plain.Kind.TheVariants.{Int, Ptr}
 use Rattle.mc_base.specs.Nodes.{Valuation, null}
 use Rattle.mc_flow.specs.Heap.Heap.{Block}
 use Rattle.mc_flow.specs.declared.defs.rules.Def.{Def}
-use Rattle.mc_flow.specs.Defs.Examples.{cell_id, fork_id, list_id, lenlist_id, tree_id, fork_with, list_def, list_rule}
+use Rattle.mc_flow.specs.Defs.Examples.{defs, cell_id, fork_id, list_id, lenlist_id, tree_id, fork_with, list_def, list_rule}
 use Rattle.mc_state.specs.declared.graph.edge.Edge.TheVariants.{Block as Fork, Ind, Seg}
 use Rattle.mc_state.specs.Graph.Graph.{Edges}
 use Rattle.mc_pure.specs.Examples.{node}
 use Rattle.mc_pure.specs.Pure.{Kinds}
 use Rattle.mc_state.specs.CoverExamples.{state_of, entry, rest_list, other_list}
 use Rattle.mc_state.specs.declared.goal.Goal.{Goal}
+use Rattle.mc_state.specs.declared.line.FoldInd.{FoldInd}
+use Rattle.mc_state.specs.declared.line.FoldSeg.{FoldSeg}
 use Rattle.mc_state.specs.State.{State}
+use Rattle.mc_rules_logic.specs.Fold.JudgedLaws.{FailsAt}
+use Rattle.mc_rules_logic.specs.Fold.Judges.{folding_ind, folding_seg}
 
 -- the edge with a number
 abbrev pub edge : ℕ → EdgeId
@@ -23,6 +27,14 @@ edge n = record { 0 = n }
 -- the nodes from 1 on have these values
 abbrev pub valued : List ℤ → Valuation
 valued values n = get_or (pos 0 ∷ values) n (pos 0)
+
+-- by whatever test tells what is entailed, this premise of L3 is the first that is unmet
+abbrev pub FoldFails : State → FoldInd → ℕ → Type 0
+FoldFails s fold k = FailsAt s (λ know. folding_ind know defs fold) k
+
+-- and this one of L4
+abbrev pub SegFoldFails : State → FoldSeg → ℕ → Type 0
+SegFoldFails s fold k = FailsAt s (λ know. folding_seg know defs fold) k
 
 -- a whole state without variables and atoms, of these kinds and edges, with the next numbers of edges and nodes
 abbrev pub left_with : Kinds → Edges → ℕ → ℕ → State
@@ -38,11 +50,11 @@ left_with kinds edges next_edge next = record {
 
 -- ---- folding
 
--- a cell and the list behind it are a list
+-- a cell and the list after it are a list
 abbrev pub cell_folded : State
 cell_folded = left_with ((node 1, Ptr) ∷ (node 2, Int) ∷ (node 3, Ptr) ∷ []) (entry 2 (Ind (node 1) list_id []) ∷ []) 3 4
 
--- the cell alone is a segment to the list behind it
+-- the cell alone is a segment to the list after it
 abbrev pub cell_as_segment : State
 cell_as_segment = left_with ((node 1, Ptr) ∷ (node 2, Int) ∷ (node 3, Ptr) ∷ [])
     (entry 1 rest_list ∷ entry 2 (Seg (node 1) [] list_id (node 3) []) ∷ []) 3 4
@@ -75,7 +87,7 @@ fork_as_segment =
 abbrev pub segment_closed : State
 segment_closed = left_with ((node 1, Ptr) ∷ (node 2, Ptr) ∷ []) (entry 2 (Ind (node 1) list_id []) ∷ []) 3 3
 
--- two segments, one behind the other
+-- two segments, one after the other
 abbrev pub two_segments : State
 two_segments = state_of ((node 1, Ptr) ∷ (node 2, Ptr) ∷ (node 3, Ptr) ∷ [])
     (Seg (node 1) [] list_id (node 2) [] ∷ Seg (node 2) [] list_id (node 3) [] ∷ []) []
@@ -181,7 +193,7 @@ abbrev pub cell_unknown : State
 cell_unknown = state_of ((node 1, Ptr) ∷ (node 2, Int) ∷ (node 3, Ptr) ∷ [])
     (Fork (node 1) cell_id (Some (node 2) ∷ None ∷ []) ∷ rest_list ∷ []) []
 
--- a predicate of cells with a list behind them: its rule calls another predicate
+-- a predicate of cells with a list after them: its rule calls another predicate
 abbrev pub other_defs : List Def
 other_defs = list_def ∷ record { name = codes "cell"; params = []; rules = list_rule ∷ [] } ∷ []
 

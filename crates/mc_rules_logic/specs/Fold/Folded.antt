@@ -14,6 +14,8 @@ use Rattle.mc_state.specs.declared.graph.edge.Edge.{Edge}
 use Rattle.mc_state.specs.declared.graph.edge.Edge.TheVariants.{Block, Ind, Seg}
 use Rattle.mc_state.specs.Graph.Graph.{Edges, Picks}
 use Rattle.mc_pure.specs.Pure.{HasKind}
+use Rattle.mc_state.specs.declared.line.FoldInd.{FoldInd}
+use Rattle.mc_state.specs.declared.line.FoldSeg.{FoldSeg}
 use Rattle.mc_state.specs.State.{State, with_only_edges, with_edges}
 use Rattle.mc_state.specs.Facts.{IsFalse, Derives, AreEqual, AreAllEqual}
 use Rattle.mc_state.specs.Fits.{HaveKinds, ArgsFit}
@@ -59,50 +61,60 @@ CallsMatch s names (call ∷ calls) (e ∷ es) = CallMatches s names call e × C
 CallsMatch s names [] (e ∷ es) = ⊥
 CallsMatch s names (call ∷ calls) [] = ⊥
 
+-- the entries of L3, one by one
+abbrev pub ind_fold : PredId → ℕ → List NodeId → Option EdgeId → List EdgeId → FoldInd
+ind_fold pred rule names block edges = record { pred = pred; rule = rule; names = names; block = block; edges = edges }
+
+-- the entries of L4, one by one
+abbrev pub seg_fold : PredId → ℕ → List NodeId → EdgeId → List EdgeId → ℕ → FoldSeg
+seg_fold pred rule names block edges call =
+    record { pred = pred; rule = rule; names = names; block = block; edges = edges; call = call }
+
+-- the entries of L4 but the call's number, as those of L3
+abbrev pub as_ind : FoldSeg → FoldInd
+as_ind fold = ind_fold fold.pred fold.rule fold.names (Some fold.block) fold.edges
+
 -- the premises that folding a rule into an Ind and into a Seg share; of the calls those are asked for that are listed
-pub record Matches (defs : List Def) (s : State) (pred : PredId) (rule : ℕ) (names : List NodeId)
-    (block : Option EdgeId) (edges : List EdgeId) (calls : Rule → List Call) : Type 0 where
+pub record Matches (defs : List Def) (s : State) (fold : FoldInd) (calls : Rule → List Call) : Type 0 where
   -- 3: the named edges exist and are distinct
   pub blocks : List Edge
   pub inds : List Edge
   pub left : Edges
-  pub picks : Picks (option_to_list block ++ edges) s.graph.edges (blocks ++ inds) left
-  pub one_each : length inds ≡ length edges
+  pub picks : Picks (option_to_list fold.block ++ fold.edges) s.graph.edges (blocks ++ inds) left
+  pub one_each : length inds ≡ length fold.edges
   -- 4: names and edges fit a rule of the predicate in number and kind
   pub def : Def
-  pub defined : slice_get defs pred.0 ≡ Some def
+  pub defined : slice_get defs fold.pred.0 ≡ Some def
   pub by : Rule
-  pub listed : slice_get def.rules rule ≡ Some by
-  pub kinds : HaveKinds s.kinds by.names names
+  pub listed : slice_get def.rules fold.rule ≡ Some by
+  pub kinds : HaveKinds s.kinds by.names fold.names
   pub this : NodeId
   pub args : List NodeId
   pub others : List NodeId
-  pub front : names ≡ this ∷ (args ++ others)
+  pub front : fold.names ≡ this ∷ (args ++ others)
   pub count : length args ≡ length def.params
   -- 5: the block edge is the rule's block
-  pub block_fits : BlocksMatch s names by.block by.contents blocks
+  pub block_fits : BlocksMatch s fold.names by.block by.contents blocks
   -- 6: each other edge is a call
-  pub calls_fit : CallsMatch s names (calls by) inds
-  -- 7: each atom of the rule is derived
-  pub atoms : AllByRecursion (λ a. Derives s (atom_of names a)) by.atoms
+  pub calls_fit : CallsMatch s fold.names (calls by) inds
+  -- 7: each atom of the rule is entailed
+  pub atoms : AllByRecursion (λ a. Derives s (atom_of fold.names a)) by.atoms
 
 -- L3: a rule's block and calls become an Ind
-pub record FoldsInd (defs : List Def) (pred : PredId) (rule : ℕ) (names : List NodeId) (block : Option EdgeId)
-    (edges : List EdgeId) (s : State) (next : List State) : Type 0 where
+pub record FoldsInd (defs : List Def) (fold : FoldInd) (s : State) (next : List State) : Type 0 where
   pub consistent : IsFalse s → ⊥
-  pub body : Matches defs s pred rule names block edges (λ r. r.calls)
-  pub gives : next ≡ folded s body.left (Ind body.this pred body.args) ∷ []
+  pub body : Matches defs s fold (λ r. r.calls)
+  pub gives : next ≡ folded s body.left (Ind body.this fold.pred body.args) ∷ []
 
 -- L4: a rule's block and calls without one of the predicate become a Seg to that call
-pub record FoldsSeg (defs : List Def) (pred : PredId) (rule : ℕ) (names : List NodeId) (block : EdgeId)
-    (edges : List EdgeId) (call : ℕ) (s : State) (next : List State) : Type 0 where
+pub record FoldsSeg (defs : List Def) (fold : FoldSeg) (s : State) (next : List State) : Type 0 where
   pub consistent : IsFalse s → ⊥
-  pub body : Matches defs s pred rule names (Some block) edges (λ r. remove r.calls call)
+  pub body : Matches defs s (as_ind fold) (λ r. remove r.calls fold.call)
   pub open_call : Call
-  pub called : slice_get body.by.calls call ≡ Some open_call
-  pub own : open_call.pred ≡ pred
+  pub called : slice_get body.by.calls fold.call ≡ Some open_call
+  pub own : open_call.pred ≡ fold.pred
   pub gives : next ≡ folded s body.left
-      (Seg body.this body.args pred (node_of names open_call.at) (map (node_of names) open_call.args)) ∷ []
+      (Seg body.this body.args fold.pred (node_of fold.names open_call.at) (map (node_of fold.names) open_call.args)) ∷ []
 
 -- L5: a Seg and an Ind of its predicate at its end, with equal arguments there, become an Ind
 pub record ClosesSeg (first second : EdgeId) (s : State) (next : List State) : Type 0 where

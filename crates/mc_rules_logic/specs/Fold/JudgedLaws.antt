@@ -1,5 +1,5 @@
 -- The rules are judged by their instances.
-use Rattle.std.specs.Prelude.{◌≡◌, ◌↔◌, ℕ, ℤ, true, Err, List, Option}
+use Rattle.std.specs.Prelude.{◌≡◌, ◌↔◌, ℕ, ℤ, true, Err, List}
 use Rattle.mc_base.specs.declared.ids.EdgeId.{EdgeId}
 use Rattle.mc_base.specs.declared.ids.NodeId.{NodeId}
 use Rattle.mc_base.specs.declared.ids.PredId.{PredId}
@@ -7,6 +7,8 @@ use Rattle.mc_base.specs.declared.plain.Kind.{Kind}
 use Rattle.mc_base.specs.declared.plain.Atom.{Atom}
 use Rattle.mc_flow.specs.declared.defs.rules.Def.{Def}
 use Rattle.mc_state.specs.declared.goal.Goal.{Goal}
+use Rattle.mc_state.specs.declared.line.FoldInd.{FoldInd}
+use Rattle.mc_state.specs.declared.line.FoldSeg.{FoldSeg}
 use Rattle.mc_state.specs.State.{State}
 use Rattle.mc_state.specs.Facts.{IsReached}
 use Rattle.mc_state.specs.Fits.{IsBounded}
@@ -18,25 +20,21 @@ use Rattle.mc_rules_logic.specs.Fold.Goals.{MeetsGoal}
 use Rattle.mc_rules_logic.specs.Fold.Judges.{folding_ind, folding_seg, closing_seg, joining_segs, making_seg, meeting_goal}
 use Rattle.mc_rules_logic.specs.Fold.ChangeJudges.{naming_spare, merging_nodes, is_reached, dropping_edge, forgetting_node}
 
--- by whatever test tells what is derived in the state, premise k is the first that is unmet
+-- by whatever test tells what is entailed in the state, premise k is the first that is unmet
 abbrev pub FailsAt : {A : Type 0} → State → (Test → State → Judged A) → ℕ → Type 0
 FailsAt s judge k = (know : Test) → Tells know s → judge know s ≡ Err k
 
 -- L3 is judged by its instances
 abbrev pub FoldIndIsJudged : Type 0
 FoldIndIsJudged =
-    (know : Test) (defs : List Def) (pred : PredId) (rule : ℕ) (names : List NodeId) (block : Option EdgeId)
-    (edges : List EdgeId) (s : State)
-    → IsBounded s → Tells know s → IsJudged (folding_ind know defs pred rule names block edges s)
-    (FoldsInd defs pred rule names block edges s)
+    (know : Test) (defs : List Def) (fold : FoldInd) (s : State)
+    → IsBounded s → Tells know s → IsJudged (folding_ind know defs fold s) (FoldsInd defs fold s)
 
 -- L4 is judged by its instances
 abbrev pub FoldSegIsJudged : Type 0
 FoldSegIsJudged =
-    (know : Test) (defs : List Def) (pred : PredId) (rule : ℕ) (names : List NodeId) (block : EdgeId)
-    (edges : List EdgeId) (call : ℕ) (s : State)
-    → IsBounded s → Tells know s → IsJudged (folding_seg know defs pred rule names block edges call s)
-    (FoldsSeg defs pred rule names block edges call s)
+    (know : Test) (defs : List Def) (fold : FoldSeg) (s : State)
+    → IsBounded s → Tells know s → IsJudged (folding_seg know defs fold s) (FoldsSeg defs fold s)
 
 -- L5 is judged by its instances
 abbrev pub CloseSegIsJudged : Type 0

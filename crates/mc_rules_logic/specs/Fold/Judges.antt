@@ -15,12 +15,14 @@ use Rattle.mc_state.specs.declared.graph.edge.Edge.TheVariants.{Block, Ind, Seg}
 use Rattle.mc_state.specs.Graph.Graph.{Edges, edge_with}
 use Rattle.mc_pure.specs.Pure.{Kinds}
 use Rattle.mc_state.specs.declared.goal.Goal.{Goal}
+use Rattle.mc_state.specs.declared.line.FoldInd.{FoldInd}
+use Rattle.mc_state.specs.declared.line.FoldSeg.{FoldSeg}
 use Rattle.mc_state.specs.State.{State, with_edges}
 use Rattle.mc_state.specs.Premises.{Judged, need, have, then_give}
 use Rattle.mc_state.specs.Lists.{all_both, on_some}
 use Rattle.mc_state.specs.Known.{Test, is_false, equal, all_equal, has_kind}
 use Rattle.mc_state.specs.Named.{others, seg_of, ind_of, other_edge, are_named, named_ids}
-use Rattle.mc_rules_logic.specs.Fold.Folded.{folded}
+use Rattle.mc_rules_logic.specs.Fold.Folded.{as_ind, folded}
 
 -- the state with one edge in place of those that are named
 abbrev pub with_fold : State → List EdgeId → Edge → State
@@ -77,19 +79,17 @@ knows_rule know names by = list_all (λ a. know (atom_of names a)) by.atoms
 -- the premises that L3 and L4 share: premise 4 also asks the rule for what stays open, and edges stand for the calls
 -- that are listed; given are the predicate's definition and what stays open
 abbrev pub matching :
-    {Open : Type 0} → Test → List Def → PredId → ℕ → List NodeId → Option EdgeId → List EdgeId → (Rule → Option Open)
-    → (Rule → List Call) → State
-    → Judged (Def × Open)
-matching know defs pred rule names block ids stays calls s =
+    {Open : Type 0} → Test → List Def → FoldInd → (Rule → Option Open) → (Rule → List Call) → State → Judged (Def × Open)
+matching know defs fold stays calls s =
     need 2 (not (is_false know))
-    (need 3 (are_named s.graph.edges block ids)
-    (have 4 (slice_get defs pred.0) (λ def.
-    have 4 (slice_get def.rules rule) (λ by.
+    (need 3 (are_named s.graph.edges fold.block fold.edges)
+    (have 4 (slice_get defs fold.pred.0) (λ def.
+    have 4 (slice_get def.rules fold.rule) (λ by.
     have 4 (stays by) (λ left.
-    need 4 (fits_rule s.kinds def by (calls by) names block ids)
-    (need 5 (body_fits know s.graph.edges names by.block by.contents block)
-    (need 6 (all_both (is_call_at know s.graph.edges names) (calls by) ids)
-    (need 7 (knows_rule know names by)
+    need 4 (fits_rule s.kinds def by (calls by) fold.names fold.block fold.edges)
+    (need 5 (body_fits know s.graph.edges fold.names by.block by.contents fold.block)
+    (need 6 (all_both (is_call_at know s.graph.edges fold.names) (calls by) fold.edges)
+    (need 7 (knows_rule know fold.names by)
     (Ok (def, left))))))))))
 
 -- the nodes of the parameters
@@ -101,10 +101,11 @@ abbrev pub nothing : Rule → Option (Unit {0})
 nothing by = Some tt
 
 -- L3: a rule's block and calls become an Ind
-abbrev pub folding_ind : Test → List Def → PredId → ℕ → List NodeId → Option EdgeId → List EdgeId → State → Judged (List State)
-folding_ind know defs pred rule names block ids s =
-    then_give (λ m. with_fold s (named_ids block ids) (Ind (node_of names 0) pred (arguments m.0 names)) ∷ [])
-    (matching know defs pred rule names block ids nothing (λ by. by.calls) s)
+abbrev pub folding_ind : Test → List Def → FoldInd → State → Judged (List State)
+folding_ind know defs fold s =
+    then_give
+    (λ m. with_fold s (named_ids fold.block fold.edges) (Ind (node_of fold.names 0) fold.pred (arguments m.0 fold.names)) ∷ [])
+    (matching know defs fold nothing (λ by. by.calls) s)
 
 -- the call, if it is of the predicate
 abbrev pub own_call : PredId → Option Call → Option Call
@@ -112,13 +113,15 @@ own_call pred None = None
 own_call pred (Some call) = if call.pred.0 == pred.0 then Some call else None
 
 -- L4: a rule's block and calls without one of the predicate become a Seg to that call
-abbrev pub folding_seg : Test → List Def → PredId → ℕ → List NodeId → EdgeId → List EdgeId → ℕ → State → Judged (List State)
-folding_seg know defs pred rule names block ids call s =
+abbrev pub folding_seg : Test → List Def → FoldSeg → State → Judged (List State)
+folding_seg know defs fold s =
     then_give
     (λ m.
-    with_fold s (named_ids (Some block) ids)
-    (Seg (node_of names 0) (arguments m.0 names) pred (node_of names m.1.at) (map (node_of names) m.1.args)) ∷ [])
-    (matching know defs pred rule names (Some block) ids (λ by. own_call pred (slice_get by.calls call)) (λ by. remove by.calls call) s)
+    with_fold s (named_ids (Some fold.block) fold.edges)
+    (Seg (node_of fold.names 0) (arguments m.0 fold.names) fold.pred (node_of fold.names m.1.at)
+    (map (node_of fold.names) m.1.args)) ∷ [])
+    (matching know defs (as_ind fold) (λ by. own_call fold.pred (slice_get by.calls fold.call))
+    (λ by. remove by.calls fold.call) s)
 
 -- ---- segments
 

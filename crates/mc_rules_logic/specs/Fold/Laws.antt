@@ -1,5 +1,5 @@
 -- What holds of the rules that fold, name, merge and drop.
-use Rattle.std.specs.Prelude.{◌≡◌, ℕ, ℤ, List, Option}
+use Rattle.std.specs.Prelude.{◌≡◌, ℤ, List, Option}
 use Rattle.std.specs.List.{AllByRecursion}
 use Rattle.mc_base.specs.declared.ids.EdgeId.{EdgeId}
 use Rattle.mc_base.specs.declared.ids.NodeId.{NodeId}
@@ -9,6 +9,8 @@ use Rattle.mc_base.specs.Nodes.{Valuation}
 use Rattle.mc_flow.specs.Heap.Heap.{Region, IsAtAddresses}
 use Rattle.mc_flow.specs.declared.defs.rules.Def.{Def}
 use Rattle.mc_state.specs.declared.goal.Goal.{Goal}
+use Rattle.mc_state.specs.declared.line.FoldInd.{FoldInd}
+use Rattle.mc_state.specs.declared.line.FoldSeg.{FoldSeg}
 use Rattle.mc_state.specs.State.{State}
 use Rattle.mc_state.specs.Fits.{IsBounded}
 use Rattle.mc_state.specs.Stands.{StandsBy}
@@ -24,16 +26,14 @@ IsLawful defs s next = IsSound defs s next × AllByRecursion IsBounded next
 -- an instance of L3 is lawful
 abbrev pub LawOfFoldInd : Type 0
 LawOfFoldInd =
-    (defs : List Def) (pred : PredId) (rule : ℕ) (names : List NodeId) (block : Option EdgeId) (edges : List EdgeId)
-    (s : State) (next : List State)
-    → IsBounded s → FoldsInd defs pred rule names block edges s next → IsLawful defs s next
+    (defs : List Def) (fold : FoldInd) (s : State) (next : List State)
+    → IsBounded s → FoldsInd defs fold s next → IsLawful defs s next
 
 -- an instance of L4 is lawful
 abbrev pub LawOfFoldSeg : Type 0
 LawOfFoldSeg =
-    (defs : List Def) (pred : PredId) (rule : ℕ) (names : List NodeId) (block : EdgeId) (edges : List EdgeId)
-    (call : ℕ) (s : State) (next : List State)
-    → IsBounded s → FoldsSeg defs pred rule names block edges call s next → IsLawful defs s next
+    (defs : List Def) (fold : FoldSeg) (s : State) (next : List State)
+    → IsBounded s → FoldsSeg defs fold s next → IsLawful defs s next
 
 -- an instance of L5 is lawful
 abbrev pub LawOfCloseSeg : Type 0
@@ -85,16 +85,14 @@ LawOfGoal =
 -- L3 gives one list of successors at most
 abbrev pub FoldIndIsDetermined : Type 0
 FoldIndIsDetermined =
-    (defs : List Def) (pred : PredId) (rule : ℕ) (names : List NodeId) (block : Option EdgeId) (edges : List EdgeId)
-    (s : State) (next other : List State)
-    → FoldsInd defs pred rule names block edges s next → FoldsInd defs pred rule names block edges s other → next ≡ other
+    (defs : List Def) (fold : FoldInd) (s : State) (next other : List State)
+    → FoldsInd defs fold s next → FoldsInd defs fold s other → next ≡ other
 
 -- L4 gives one list of successors at most
 abbrev pub FoldSegIsDetermined : Type 0
 FoldSegIsDetermined =
-    (defs : List Def) (pred : PredId) (rule : ℕ) (names : List NodeId) (block : EdgeId) (edges : List EdgeId)
-    (call : ℕ) (s : State) (next other : List State)
-    → FoldsSeg defs pred rule names block edges call s next → FoldsSeg defs pred rule names block edges call s other → next ≡ other
+    (defs : List Def) (fold : FoldSeg) (s : State) (next other : List State)
+    → FoldsSeg defs fold s next → FoldsSeg defs fold s other → next ≡ other
 
 -- L5 gives one list of successors at most
 abbrev pub CloseSegIsDetermined : Type 0

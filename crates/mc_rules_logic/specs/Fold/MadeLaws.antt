@@ -1,5 +1,5 @@
 -- What a rule makes is well made where the state before is.
-use Rattle.std.specs.Prelude.{ℕ, ℤ, List, Option}
+use Rattle.std.specs.Prelude.{ℤ, List}
 use Rattle.std.specs.List.{AllByRecursion}
 use Rattle.mc_base.specs.declared.ids.EdgeId.{EdgeId}
 use Rattle.mc_base.specs.declared.ids.NodeId.{NodeId}
@@ -9,6 +9,8 @@ use Rattle.mc_base.specs.declared.plain.VarInfo.{VarInfo}
 use Rattle.mc_flow.specs.Defs.Conditions.{IsDefs}
 use Rattle.mc_flow.specs.declared.defs.rules.Def.{Def}
 use Rattle.mc_flow.specs.declared.defs.shapes.StructInfo.{StructInfo}
+use Rattle.mc_state.specs.declared.line.FoldInd.{FoldInd}
+use Rattle.mc_state.specs.declared.line.FoldSeg.{FoldSeg}
 use Rattle.mc_state.specs.State.{State}
 use Rattle.mc_state.specs.Fits.{IsWellMade}
 use Rattle.mc_rules_logic.specs.Fold.Folded.{FoldsInd, FoldsSeg, ClosesSeg, JoinsSegs, MakesEmptySeg}
@@ -21,16 +23,14 @@ StayWellMade defs vars structs s next = IsWellMade defs vars structs s → AllBy
 -- what L3 makes is well made, where the definitions are
 abbrev pub FoldIndStaysMade : Type 0
 FoldIndStaysMade =
-    (defs : List Def) (vars : List VarInfo) (structs : List StructInfo) (pred : PredId) (rule : ℕ)
-    (names : List NodeId) (block : Option EdgeId) (edges : List EdgeId) (s : State) (next : List State)
-    → IsDefs defs → FoldsInd defs pred rule names block edges s next → StayWellMade defs vars structs s next
+    (defs : List Def) (vars : List VarInfo) (structs : List StructInfo) (fold : FoldInd) (s : State) (next : List State)
+    → IsDefs defs → FoldsInd defs fold s next → StayWellMade defs vars structs s next
 
 -- what L4 makes is well made, where the definitions are
 abbrev pub FoldSegStaysMade : Type 0
 FoldSegStaysMade =
-    (defs : List Def) (vars : List VarInfo) (structs : List StructInfo) (pred : PredId) (rule : ℕ)
-    (names : List NodeId) (block : EdgeId) (edges : List EdgeId) (call : ℕ) (s : State) (next : List State)
-    → IsDefs defs → FoldsSeg defs pred rule names block edges call s next → StayWellMade defs vars structs s next
+    (defs : List Def) (vars : List VarInfo) (structs : List StructInfo) (fold : FoldSeg) (s : State) (next : List State)
+    → IsDefs defs → FoldsSeg defs fold s next → StayWellMade defs vars structs s next
 
 -- what L5 makes is well made
 abbrev pub CloseSegStaysMade : Type 0

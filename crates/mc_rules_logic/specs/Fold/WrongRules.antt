@@ -1,5 +1,5 @@
 -- Rules that look like the rules that fold and drop, and are not sound.
-use Rattle.std.specs.Prelude.{◌≡◌, ℕ, List, [], ◌∷◌, ◌++◌, Option, Some, length, option_to_list, slice_get}
+use Rattle.std.specs.Prelude.{◌≡◌, List, [], ◌∷◌, ◌++◌, Some, length, option_to_list, slice_get}
 use Rattle.std.specs.List.{AllByRecursion}
 use Rattle.mc_base.specs.declared.ids.EdgeId.{EdgeId}
 use Rattle.mc_base.specs.declared.ids.NodeId.{NodeId}
@@ -13,6 +13,7 @@ use Rattle.mc_state.specs.Graph.Graph.{Edges, Picks, edge_with, without}
 use Rattle.mc_state.specs.Facts.{IsFalse, Derives, AreEqual}
 use Rattle.mc_state.specs.Fits.{IsBounded, HaveKinds}
 use Rattle.mc_state.specs.Rules.{IsSound}
+use Rattle.mc_state.specs.declared.line.FoldInd.{FoldInd}
 use Rattle.mc_state.specs.State.{State}
 use Rattle.mc_rules_logic.specs.Fold.Folded.{folded, BlocksMatch, CallsMatch}
 use Rattle.mc_rules_logic.specs.Fold.Changed.{DropsEdge}
@@ -30,34 +31,32 @@ without_all es [] = es
 without_all es (id ∷ ids) = without_all (without es id) ids
 
 -- L3 in which the named edges need not be distinct
-pub record FoldsShared (defs : List Def) (pred : PredId) (rule : ℕ) (names : List NodeId) (block : Option EdgeId)
-    (edges : List EdgeId) (s : State) (next : List State) : Type 0 where
+pub record FoldsShared (defs : List Def) (fold : FoldInd) (s : State) (next : List State) : Type 0 where
   pub consistent : IsFalse s → ⊥
   pub blocks : List Edge
   pub inds : List Edge
-  pub named : AreNamed (option_to_list block ++ edges) s.graph.edges (blocks ++ inds)
-  pub one_each : length inds ≡ length edges
+  pub named : AreNamed (option_to_list fold.block ++ fold.edges) s.graph.edges (blocks ++ inds)
+  pub one_each : length inds ≡ length fold.edges
   pub def : Def
-  pub defined : slice_get defs pred.0 ≡ Some def
+  pub defined : slice_get defs fold.pred.0 ≡ Some def
   pub by : Rule
-  pub listed : slice_get def.rules rule ≡ Some by
-  pub kinds : HaveKinds s.kinds by.names names
+  pub listed : slice_get def.rules fold.rule ≡ Some by
+  pub kinds : HaveKinds s.kinds by.names fold.names
   pub this : NodeId
   pub args : List NodeId
   pub others : List NodeId
-  pub front : names ≡ this ∷ (args ++ others)
+  pub front : fold.names ≡ this ∷ (args ++ others)
   pub count : length args ≡ length def.params
-  pub block_fits : BlocksMatch s names by.block by.contents blocks
-  pub calls_fit : CallsMatch s names by.calls inds
-  pub atoms : AllByRecursion (λ a. Derives s (atom_of names a)) by.atoms
-  pub gives : next ≡ folded s (without_all s.graph.edges (option_to_list block ++ edges)) (Ind this pred args) ∷ []
+  pub block_fits : BlocksMatch s fold.names by.block by.contents blocks
+  pub calls_fit : CallsMatch s fold.names by.calls inds
+  pub atoms : AllByRecursion (λ a. Derives s (atom_of fold.names a)) by.atoms
+  pub gives : next ≡ folded s (without_all s.graph.edges (option_to_list fold.block ++ fold.edges)) (Ind this fold.pred args) ∷ []
 
 -- what the law of L3 would say of it
 abbrev pub SharedFoldIsSound : Type 0
 SharedFoldIsSound =
-    (defs : List Def) (pred : PredId) (rule : ℕ) (names : List NodeId) (block : Option EdgeId) (edges : List EdgeId)
-    (s : State) (next : List State)
-    → IsBounded s → FoldsShared defs pred rule names block edges s next → IsSound defs s next
+    (defs : List Def) (fold : FoldInd) (s : State) (next : List State)
+    → IsBounded s → FoldsShared defs fold s next → IsSound defs s next
 
 -- L5 in which the arguments at the Seg's end need not be those of the Ind
 pub record ClosesAnyArgs (first second : EdgeId) (s : State) (next : List State) : Type 0 where

@@ -32,7 +32,7 @@ no_cell = record {
   whole = true;
 }
 
--- a cell with a list behind it
+-- a cell with a list after it
 abbrev pub cell_then_list : State
 cell_then_list =
     record {
@@ -64,7 +64,7 @@ no_segment =
       whole = true;
     }
 
--- a cell with a segment behind it
+-- a cell with a segment after it
 abbrev pub cell_then_segment : State
 cell_then_segment =
     record {

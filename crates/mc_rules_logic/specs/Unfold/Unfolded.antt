@@ -18,7 +18,7 @@ use Rattle.mc_state.specs.Facts.{IsFalse}
 use Rattle.mc_state.specs.Bodies.{body_edges, body_to}
 use Rattle.mc_state.specs.Rules.{MayUnfold}
 
--- the kinds of the names behind `this` and the arguments
+-- the kinds of the names after `this` and the arguments
 abbrev pub new_kinds : List NodeId → Rule → List Kind
 new_kinds args rule = drop (suc (length args)) rule.names
 

@@ -8,7 +8,7 @@ ghost use Rattle.mc_state.specs.CoverExamples.{cell_and_list, segment_and_list, 
 ghost use Rattle.mc_state.specs.Fits.{IsBounded};
 ghost use Rattle.mc_state.specs.Stands.{StandsBy};
 ghost use Rattle.mc_state.specs.State.{State as Symbolic};
-ghost use Rattle.mc_rules_logic.specs.Fold.Folded.{FoldsInd, FoldsSeg, ClosesSeg, JoinsSegs, MakesEmptySeg};
+ghost use Rattle.mc_rules_logic.specs.Fold.Folded.{FoldsInd, FoldsSeg, ClosesSeg, JoinsSegs, MakesEmptySeg, ind_fold, seg_fold};
 ghost use Rattle.mc_rules_logic.specs.Fold.Changed.{NamesSpare, MergesNodes, DropsEdge, ForgetsNode};
 ghost use Rattle.mc_rules_logic.specs.Fold.Goals.{MeetsGoal};
 ghost use Rattle.mc_rules_logic.specs.Fold.Examples.{edge, valued, cell_folded, cell_as_segment, length_folded, fork_as_segment};
@@ -21,26 +21,28 @@ use mc_flow::defs::{example_predicates, example_premises, example_segments};
 use mc_flow::heap::{changes_are_local, heaps_change_one_address, parts_regroup};
 use mc_state::{body_premises, derived_is_true};
 
-/// A cell and a list behind it are folded, and the cell alone as a segment; a fork with one tree
+/// A cell and a list after it are folded, and the cell alone as a segment; a fork with one tree
 /// for both its children is not.
 pub fn example_folds()
     ensures bounded { IsBounded cell_and_list }
-    ensures ind { FoldsInd defs list_id 1 (node 1 ∷ node 2 ∷ node 3 ∷ []) (Some (edge 0)) (edge 1 ∷ []) cell_and_list (cell_folded ∷ []) }
-    ensures seg { FoldsSeg defs list_id 1 (node 1 ∷ node 2 ∷ node 3 ∷ []) (edge 0) [] 0 cell_and_list (cell_as_segment ∷ []) }
+    ensures ind { FoldsInd defs (ind_fold list_id 1 (node 1 ∷ node 2 ∷ node 3 ∷ []) (Some (edge 0)) (edge 1 ∷ []))
+        cell_and_list (cell_folded ∷ []) }
+    ensures seg { FoldsSeg defs (seg_fold list_id 1 (node 1 ∷ node 2 ∷ node 3 ∷ []) (edge 0) [] 0) cell_and_list
+        (cell_as_segment ∷ []) }
     ensures not_shared { (next : List Symbolic)
-        → ¬ FoldsInd defs tree_id 1 (node 1 ∷ node 2 ∷ node 2 ∷ []) (Some (edge 0))
-        (edge 1 ∷ edge 1 ∷ []) shared_tree next }
+        → ¬ FoldsInd defs (ind_fold tree_id 1 (node 1 ∷ node 2 ∷ node 2 ∷ []) (Some (edge 0)) (edge 1 ∷ edge 1 ∷ []))
+        shared_tree next }
 {
     example_predicates();
     body_premises();
     derived_is_true();
 }
 
-/// A cell and a list of a length behind it are folded: the arguments and an atom of the rule match.
+/// A cell and a list of a length after it are folded: the arguments and an atom of the rule match.
 pub fn example_of_arguments()
     ensures bounded { IsBounded cell_and_length }
-    ensures ind { FoldsInd defs lenlist_id 1 (node 1 ∷ node 5 ∷ node 2 ∷ node 3 ∷ node 4 ∷ []) (Some (edge 0))
-        (edge 1 ∷ []) cell_and_length (length_folded ∷ []) }
+    ensures ind { FoldsInd defs (ind_fold lenlist_id 1 (node 1 ∷ node 5 ∷ node 2 ∷ node 3 ∷ node 4 ∷ []) (Some (edge 0))
+        (edge 1 ∷ [])) cell_and_length (length_folded ∷ []) }
     ensures stands { StandsBy defs (valued (pos 7 ∷ pos 5 ∷ pos 9 ∷ pos 1 ∷ pos 2 ∷ [])) [] (blocks two_cells) cell_and_length }
 {
     parts_regroup();
@@ -53,7 +55,8 @@ pub fn example_of_arguments()
 /// A fork and the tree to its left are folded as a segment to its right, the second call.
 pub fn example_of_second_call()
     ensures bounded { IsBounded fork_and_tree }
-    ensures seg { FoldsSeg defs tree_id 1 (node 1 ∷ node 2 ∷ node 3 ∷ []) (edge 1) (edge 2 ∷ []) 1 fork_and_tree (fork_as_segment ∷ []) }
+    ensures seg { FoldsSeg defs (seg_fold tree_id 1 (node 1 ∷ node 2 ∷ node 3 ∷ []) (edge 1) (edge 2 ∷ []) 1) fork_and_tree
+        (fork_as_segment ∷ []) }
     ensures addresses { IsAtAddresses (blocks two_forks) }
     ensures stands { StandsBy defs (valued (pos 7 ∷ pos 9 ∷ [])) [] (blocks two_forks) fork_and_tree }
 {

@@ -6,28 +6,28 @@ ghost use Rattle.mc_base.specs.Nodes.{null};
 ghost use Rattle.mc_flow.specs.Defs.Examples.{defs, list_id, lenlist_id, tree_id};
 ghost use Rattle.mc_pure.specs.Examples.{node};
 ghost use Rattle.mc_state.specs.CoverExamples.{cell_and_list, segment_and_list, fork_and_tree};
+ghost use Rattle.mc_rules_logic.specs.Fold.Folded.{ind_fold, seg_fold};
 ghost use Rattle.mc_rules_logic.specs.Fold.Examples.{edge, two_segments, pointer, small_number, named_twice, lost_list};
 ghost use Rattle.mc_rules_logic.specs.Fold.Examples.{other_length, list_apart, pointed_list, list_goal, null_goal, tree_goal, first_three, false_pointer};
-ghost use Rattle.mc_rules_logic.specs.Fold.Examples.{cell_unknown, other_defs, pointed_node};
+ghost use Rattle.mc_rules_logic.specs.Fold.Examples.{FoldFails, SegFoldFails, cell_unknown, other_defs, pointed_node};
 ghost use Rattle.mc_rules_logic.specs.Fold.JudgedLaws.{FailsAt};
-ghost use Rattle.mc_rules_logic.specs.Fold.Judges.{folding_ind, folding_seg, closing_seg, joining_segs, making_seg, meeting_goal};
+ghost use Rattle.mc_rules_logic.specs.Fold.Judges.{folding_seg, closing_seg, joining_segs, making_seg, meeting_goal};
 ghost use Rattle.mc_rules_logic.specs.Fold.ChangeJudges.{naming_spare, merging_nodes, dropping_edge, forgetting_node};
 
 /// A fork, its block named for a rule without one and no block for a rule that has one, one edge twice,
 /// one edge for two calls, a list for a tree, and a fork that is not null.
 pub fn examples_of_forks_refused()
-    ensures twice { FailsAt fork_and_tree (λ know. folding_ind know defs tree_id 1 first_three (Some (edge 1)) (edge 2 ∷ edge 2 ∷ [])) 3 }
-    ensures block_twice { FailsAt fork_and_tree
-        (λ know. folding_ind know defs tree_id 1 first_three (Some (edge 1)) (edge 1 ∷ edge 2 ∷ [])) 3 }
-    ensures absent { FailsAt fork_and_tree (λ know. folding_ind know defs tree_id 1 first_three (Some (edge 1)) (edge 2 ∷ edge 3 ∷ [])) 3 }
-    ensures fewer { FailsAt fork_and_tree (λ know. folding_ind know defs tree_id 1 first_three (Some (edge 1)) (edge 2 ∷ [])) 4 }
-    ensures bare { FailsAt fork_and_tree (λ know. folding_ind know defs tree_id 1 first_three None (edge 2 ∷ [])) 4 }
-    ensures block { FailsAt fork_and_tree (λ know. folding_ind know defs tree_id 0 (node 2 ∷ []) (Some (edge 1)) []) 4 }
-    ensures no_rule { FailsAt fork_and_tree (λ know. folding_ind know defs tree_id 2 first_three (Some (edge 1)) (edge 2 ∷ [])) 4 }
-    ensures list { FailsAt fork_and_tree (λ know. folding_ind know defs tree_id 1 first_three (Some (edge 1)) (edge 2 ∷ edge 0 ∷ [])) 6 }
-    ensures not_null { FailsAt fork_and_tree (λ know. folding_ind know defs tree_id 0 (node 1 ∷ []) None []) 7 }
-    ensures no_call { FailsAt fork_and_tree (λ know. folding_seg know defs tree_id 1 first_three (edge 1) (edge 2 ∷ []) 2) 4 }
-    ensures all_calls { FailsAt fork_and_tree (λ know. folding_seg know defs tree_id 1 first_three (edge 1) (edge 2 ∷ edge 0 ∷ []) 1) 4 }
+    ensures twice { FoldFails fork_and_tree (ind_fold tree_id 1 first_three (Some (edge 1)) (edge 2 ∷ edge 2 ∷ [])) 3 }
+    ensures block_twice { FoldFails fork_and_tree (ind_fold tree_id 1 first_three (Some (edge 1)) (edge 1 ∷ edge 2 ∷ [])) 3 }
+    ensures absent { FoldFails fork_and_tree (ind_fold tree_id 1 first_three (Some (edge 1)) (edge 2 ∷ edge 3 ∷ [])) 3 }
+    ensures fewer { FoldFails fork_and_tree (ind_fold tree_id 1 first_three (Some (edge 1)) (edge 2 ∷ [])) 4 }
+    ensures bare { FoldFails fork_and_tree (ind_fold tree_id 1 first_three None (edge 2 ∷ [])) 4 }
+    ensures block { FoldFails fork_and_tree (ind_fold tree_id 0 (node 2 ∷ []) (Some (edge 1)) []) 4 }
+    ensures no_rule { FoldFails fork_and_tree (ind_fold tree_id 2 first_three (Some (edge 1)) (edge 2 ∷ [])) 4 }
+    ensures list { FoldFails fork_and_tree (ind_fold tree_id 1 first_three (Some (edge 1)) (edge 2 ∷ edge 0 ∷ [])) 6 }
+    ensures not_null { FoldFails fork_and_tree (ind_fold tree_id 0 (node 1 ∷ []) None []) 7 }
+    ensures no_call { SegFoldFails fork_and_tree (seg_fold tree_id 1 first_three (edge 1) (edge 2 ∷ []) 2) 4 }
+    ensures all_calls { SegFoldFails fork_and_tree (seg_fold tree_id 1 first_three (edge 1) (edge 2 ∷ edge 0 ∷ []) 1) 4 }
 {
     mc_pure::derived_is_true();
 }
@@ -35,13 +35,11 @@ pub fn examples_of_forks_refused()
 /// A cell with no block named, with a pointer for a number, with an unknown field, with a call of another predicate
 /// left open, and at another node; and its nodes, which are of two kinds or not known to be equal.
 pub fn examples_of_cells_refused()
-    ensures no_block { FailsAt cell_and_list (λ know. folding_ind know defs list_id 1 first_three None (edge 1 ∷ [])) 4 }
-    ensures kind { FailsAt cell_and_list
-        (λ know. folding_ind know defs list_id 1 (node 1 ∷ node 1 ∷ node 3 ∷ []) (Some (edge 0)) (edge 1 ∷ [])) 4 }
-    ensures unknown { FailsAt cell_unknown (λ know. folding_ind know defs list_id 1 first_three (Some (edge 0)) (edge 1 ∷ [])) 5 }
-    ensures other_call { FailsAt cell_and_list (λ know. folding_seg know other_defs lenlist_id 0 first_three (edge 0) [] 0) 4 }
-    ensures elsewhere { FailsAt cell_and_list
-        (λ know. folding_ind know defs list_id 1 (node 3 ∷ node 2 ∷ node 3 ∷ []) (Some (edge 0)) (edge 1 ∷ [])) 5 }
+    ensures no_block { FoldFails cell_and_list (ind_fold list_id 1 first_three None (edge 1 ∷ [])) 4 }
+    ensures kind { FoldFails cell_and_list (ind_fold list_id 1 (node 1 ∷ node 1 ∷ node 3 ∷ []) (Some (edge 0)) (edge 1 ∷ [])) 4 }
+    ensures unknown { FoldFails cell_unknown (ind_fold list_id 1 first_three (Some (edge 0)) (edge 1 ∷ [])) 5 }
+    ensures other_call { FailsAt cell_and_list (λ know. folding_seg know other_defs (seg_fold lenlist_id 0 first_three (edge 0) [] 0)) 4 }
+    ensures elsewhere { FoldFails cell_and_list (ind_fold list_id 1 (node 3 ∷ node 2 ∷ node 3 ∷ []) (Some (edge 0)) (edge 1 ∷ [])) 5 }
     ensures two_kinds { FailsAt cell_and_list (λ know. merging_nodes know (node 1) (node 2)) 4 }
     ensures apart { FailsAt cell_and_list (λ know. merging_nodes know (node 1) (node 3)) 5 }
 {
@@ -112,8 +110,8 @@ pub fn examples_of_dropping_refused()
 
 /// A false state is refused by each rule at the second premise, before anything else is asked.
 pub fn examples_of_false_state()
-    ensures fold_ind { FailsAt false_pointer (λ know. folding_ind know defs list_id 9 [] None []) 2 }
-    ensures fold_seg { FailsAt false_pointer (λ know. folding_seg know defs list_id 9 [] (edge 0) [] 0) 2 }
+    ensures fold_ind { FoldFails false_pointer (ind_fold list_id 9 [] None []) 2 }
+    ensures fold_seg { SegFoldFails false_pointer (seg_fold list_id 9 [] (edge 0) [] 0) 2 }
     ensures close { FailsAt false_pointer (λ know. closing_seg know (edge 0) (edge 0)) 2 }
     ensures join { FailsAt false_pointer (λ know. joining_segs know (edge 0) (edge 0)) 2 }
     ensures make { FailsAt false_pointer (λ know. making_seg know defs list_id (node 9) [] (node 9) []) 2 }

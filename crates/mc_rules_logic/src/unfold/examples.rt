@@ -19,7 +19,7 @@ use mc_flow::defs::{
 use mc_flow::heap::{heaps_change_one_address, parts_regroup};
 use mc_state::{body_premises, derived_is_true};
 
-/// A list at the accessed node is null, or a cell with a list behind it.
+/// A list at the accessed node is null, or a cell with a list after it.
 pub fn example_of_ind()
     ensures made { IsWellMade defs [] structs one_list }
     ensures unfolds { UnfoldsInd defs (Some (node 1)) (edge 0) one_list (no_cell ∷ cell_then_list ∷ []) }
@@ -31,7 +31,7 @@ pub fn example_of_ind()
     derived_is_true();
 }
 
-/// A segment that begins at the accessed node is empty, or a cell with a segment behind it.
+/// A segment that begins at the accessed node is empty, or a cell with a segment after it.
 pub fn example_of_seg()
     ensures made { IsWellMade defs [] structs one_segment }
     ensures unfolds { UnfoldsSeg defs (Some (node 1)) (edge 0) one_segment (no_segment ∷ cell_then_segment ∷ []) }

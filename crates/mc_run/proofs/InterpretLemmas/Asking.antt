@@ -207,7 +207,7 @@ known_both : (locals before behind : List Variable) → AreKnown locals before �
 known_both locals [] behind one other = other
 known_both locals (v ∷ before) behind one other = (one.0, known_both locals before behind one.1 other)
 
--- a variable that is declared is visible behind it
+-- a variable that is declared is visible after it
 declared_known : (locals : List Variable) (s : Scope) (v : Variable) → AreKnown locals (visible s) → IsKnown locals v.place → AreKnown locals (visible (declare s v))
 declared_known locals s v known new =
     let front : AreKnown locals (s.heads ++ s.own) = known_before locals (s.heads ++ s.own) s.outer known in

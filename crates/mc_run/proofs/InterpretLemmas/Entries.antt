@@ -6,7 +6,7 @@ use Rattle.mc_c_syntax.specs.Ast.Trees.{FunctionTree, UnitTree}
 use Rattle.mc_c_types.specs.Tables.{called_function, is_defined, tables_of}
 use Rattle.mc_c_types.specs.Typing.{IsWellTyped, is_entry}
 
-found_first : {X : Type 0} (p q : X → Bool) (x : X) (xs : List X) (b d : Bool) → q x ≡ b → p x ≡ d → (p x ≡ true → q x ≡ true) → list_any p (x ∷ xs) ≡ true
+pub found_first : {X : Type 0} (p q : X → Bool) (x : X) (xs : List X) (b d : Bool) → q x ≡ b → p x ≡ d → (p x ≡ true → q x ≡ true) → list_any p (x ∷ xs) ≡ true
     → (list_any p xs ≡ true → (y : X) × (find q xs ≡ Some y)) → (y : X) × (find q (x ∷ xs) ≡ Some y)
 found_first p q x xs true d h g implies e later = (x, rw h refl)
 found_first p q x xs false true h g implies e later = let two : false ≡ true = sym h ∙ implies g in cc
@@ -15,11 +15,11 @@ found_first p q x xs false false h g implies e later =
     let r = later rest in
     (r.0, rw h r.1)
 
-find_any : {X : Type 0} (p q : X → Bool) (xs : List X) → ((x : X) → p x ≡ true → q x ≡ true) → list_any p xs ≡ true → (x : X) × (find q xs ≡ Some x)
+pub find_any : {X : Type 0} (p q : X → Bool) (xs : List X) → ((x : X) → p x ≡ true → q x ≡ true) → list_any p xs ≡ true → (x : X) × (find q xs ≡ Some x)
 find_any p q [] implies e = cc
 find_any p q (x ∷ xs) implies e = found_first p q x xs (q x) (p x) refl refl (implies x) e (find_any p q xs implies)
 
-first_two : (a b : Bool) → (a && b) ≡ true → a ≡ true
+pub first_two : (a b : Bool) → (a && b) ≡ true → a ≡ true
 first_two true b e = refl
 first_two false b e = cc
 

@@ -14,11 +14,11 @@ use Rattle.mc_semantics.specs.Waiting.Laws.{ProgramsStepEndOrWait}
 use Rattle.mc_semantics.specs.Waiting.Requests.{Request, Waits}
 use Rattle.mc_semantics.specs.Waiting.Runs.{ComesTo, GoesOn, HasEnded, IsOneOf, Leads, MakesStep}
 use Rattle.mc_semantics.specs.Waiting.Trees as trees
-use Rattle.mc_semantics.specs.Resolved.Configs.{Config, Result}
+use Rattle.mc_semantics.specs.Resolved.Configs.{Config}
 use Rattle.mc_semantics.specs.Resolved.Programs.{Function}
 use Rattle.mc_semantics.specs.Resolved.Steps as steps
 use Rattle.mc_semantics.specs.Resolved.Resolving.{resolved_program}
-use Rattle.mc_semantics.specs.Resolved.Running.{Match, RunAlike, SameResult, both_go, both_end, program, StepAlike}
+use Rattle.mc_semantics.specs.Resolved.Running.{Match, RunAlike, program, StepAlike}
 use Rattle.mc_run.specs.declared.outcome.Outcome.{Outcome}
 use Rattle.mc_run.specs.declared.outcome.Outcome.TheVariants as outcomes
 use Rattle.mc_run.specs.Asking.{Asks}
@@ -27,19 +27,7 @@ use Rattle.mc_run.specs.Steps.{HasNoStep}
 use Rattle.mc_run.specs.Interpret.Programs.{ResolvedRuns}
 use Rattle.mc_run.proofs.InterpretLemmas.Entries.{has_entry}
 use Rattle.mc_run.proofs.InterpretLemmas.Asking.{EachAlike, EachArrives, asks_alike}
-
--- what is the same as an end is that end, and what is the same as going on goes on
-end_of : (t : Tables) (defs : List Def) {f : Final} {s : Result} → SameResult t defs (last f) s → s ≡ last f
-end_of t defs both_end = refl
-
-end_from : (t : Tables) (defs : List Def) {f : Final} {r : named.Result} → SameResult t defs r (last f) → r ≡ last f
-end_from t defs both_end = refl
-
-abbrev Went : Tables → List Def → Config → List Choice → named.Result → Type 0
-Went t defs d left r = (c : named.Config) × (r ≡ next c left) × Match t defs c d
-
-on_from : (t : Tables) (defs : List Def) {d : Config} {left : List Choice} {r : named.Result} → SameResult t defs r (next d left) → Went t defs d left r
-on_from t defs (both_go {c = c} m) = (c, refl, m)
+use Rattle.mc_semantics.proofs.ResolvedLemmas.Running.{end_from, end_of, on_from}
 
 abbrev pub StepsAlike : Tables → List Def → List ℕ → Type 0
 StepsAlike t defs entry = (c : named.Config) (d : Config) (choices : List Choice) → Match t defs c d → StepAlike t defs entry c d choices

@@ -28,7 +28,7 @@ ProgramRuns unit entry defs script fuel ending =
     × RunsTo (Step (program_of unit defs)) (Asks (program_of unit defs)) (struct_infos unit)
     (start (program_of unit defs) f) script fuel (outcome_of ending)
 
--- the same for the program with its names put away, which may be stuck
+-- the same for the program with its names resolved, which may be stuck
 abbrev pub ResolvedRuns : UnitTree → (entry : List ℕ) → List Def → (script : List (List ℕ)) → (fuel : ℕ) → Outcome → Type 0
 ResolvedRuns unit entry defs script fuel outcome =
     RunsFrom (resolved_program (tables_of unit) defs entry) (struct_infos unit) script fuel outcome

@@ -37,11 +37,10 @@ fn run_with(
         defs,
         structs,
     };
-    let outcome = run(alloc, program, &mut Script::of(script), fuel)?;
-    Ok(outcome)
+    run(alloc, program, &mut Script::of(script), fuel)
 }
 
-// What the program with its names put away comes to.
+// What the program with its names resolved comes to.
 fn run_resolved(alloc: Global, bound: &Bound, script: &[u8], fuel: u64) -> Result<Outcome, NoMemory>
     ensures { IfOk result
         (λ outcome. ResolvedRuns (unit_of bound.now.typed.unit) bound.now.typed.entry bound.now.defs
@@ -51,8 +50,7 @@ fn run_resolved(alloc: Global, bound: &Bound, script: &[u8], fuel: u64) -> Resul
     let infos = bound.typed().structs().list.as_slice();
     let texts = struct_texts(alloc, infos)?;
     let structs = NamedStructs::of(alloc, infos, texts.as_slice())?;
-    let outcome = run_with(alloc, &resolved, bound.defs(), &structs, script, fuel)?;
-    Ok(outcome)
+    run_with(alloc, &resolved, bound.defs(), &structs, script, fuel)
 }
 
 /// What the program comes to with the choices of a script, in at most so many steps. The only error is want of memory.

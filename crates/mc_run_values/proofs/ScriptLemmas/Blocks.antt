@@ -29,7 +29,7 @@ none_made structs made blocks k b inside at e =
     let none : block_in structs (get_or blocks k b) ≡ None = sym (ap (block_in structs) at) ∙ e in
     rw (drop-cons blocks k b inside) (rw none refl)
 
--- a further block stands behind those made before
+-- a further block stands after those made before
 pub one_made : (structs : List StructInfo) (made : List NewBlock) (new : NewBlock) (blocks : List NamedBlock) (k : ℕ) (b : NamedBlock) → k < length blocks → b ≡ get_or blocks k b → block_in structs b ≡ Some (block new)
     → prefixed (map block made) (blocks_in structs (drop k blocks)) ≡ prefixed (map block (made ++ new ∷ [])) (blocks_in structs (drop (k + 1) blocks))
 one_made structs made new blocks k b inside at e =

@@ -8,7 +8,7 @@ use Rattle.mc_run_values.specs.declared.script.line.NamedBlock.{NamedBlock}
 use Rattle.mc_run_values.specs.declared.script.line.ScriptLine.{ScriptLine}
 use Rattle.mc_run_values.specs.declared.script.line.ScriptLine.TheVariants.{Input, Malloc, Shape}
 use Rattle.mc_run_values.specs.Script.Lines.{block_data, line_data}
-use Rattle.mc_run_values.proofs.ScriptLemmas.Parts.{Either, OfNamed, form_of, values_in, values_once}
+use Rattle.mc_lines.proofs.CertLemmas.Arrays.{Either, OfNamed, form_of, values_in, values_once}
 
 -- what a line with this name and these entries is
 abbrev pub IsForm : List ℕ → List Data → ScriptLine → Type 0

@@ -10,7 +10,7 @@ use Rattle.mc_semantics.specs.Resolved.Steps.{EvaluateAll}
 use Rattle.mc_run_values.specs.Values.Asking.{ArgumentsAsk}
 use Rattle.mc_run_values.specs.Values.Taking.{Takes}
 
--- what arguments come to behind others
+-- what arguments come to after others
 abbrev pub behind : List (Option ℤ) → Arguments → Arguments
 behind vs (no_arguments kind) = no_arguments kind
 behind vs (arguments ws rest) = arguments (vs ++ ws) rest

@@ -1,4 +1,4 @@
--- Each turn leads to what is left behind it.
+-- Each turn leads to what is left after it.
 use Rattle.std.proofs.Common.{◌≡◌, ◌∙◌, ◌⊎◌, inl, inr, ◌++◌, ℕ, ℤ, List, [], ◌∷◌, Option, Some, Bor, pos, refl, sym, ap, subst}
 use Rattle.mc_base.specs.declared.plain.FaultKind.{FaultKind}
 use Rattle.mc_flow.specs.Heap.Choices.{Choice}

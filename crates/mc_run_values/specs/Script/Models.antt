@@ -23,6 +23,6 @@ answered asked.Missing = missing
 answered asked.Unreadable = unreadable
 answered (asked.Choice c) = chosen (choice c)
 
--- the list behind a front, if it is there
+-- the list after a front, if it is there
 abbrev pub prefixed : {T : Type 0} → List T → Option (List T) → Option (List T)
 prefixed front behind = option_map (λ list. front ++ list) behind

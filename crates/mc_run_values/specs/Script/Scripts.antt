@@ -47,7 +47,7 @@ IsAnswer structs line missing = ⊥
 IsAnswer structs line unreadable = IsNoChoice structs line
 IsAnswer structs line (chosen c) = IsChoice structs line c
 
--- what the first of these lines answers, and the lines behind it; without a line the choice is missing
+-- what the first of these lines answers, and the lines after it; without a line the choice is missing
 abbrev pub Answers : List StructInfo → List (List ℕ) → Answered → List (List ℕ) → Type 0
 Answers structs [] answer left = (answer ≡ missing) × (left ≡ [])
 Answers structs (line ∷ lines) answer left = IsAnswer structs line answer × (left ≡ lines)

@@ -34,7 +34,7 @@ IsFirst p item rest tasks =
     (items : List Initial) × (behind : Tasks) × (rest ≡ task (perform (declaration p items)) behind)
     × (tasks ≡ task (perform (declaration p (item ∷ items))) behind)
 
--- this is first among the tasks, and what is behind it is left
+-- this is first among the tasks, and what is after it is left
 abbrev pub Has : Next → Work → Tasks → Type 0
 Has Next.Done w tasks = tasks ≡ done
 Has (Next.Declare p item) w tasks = IsFirst p (initial_of item.now) (tasks_of w) tasks

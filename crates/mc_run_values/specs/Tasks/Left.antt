@@ -42,7 +42,7 @@ turn_of t rest = turn (condition_in t) (body_of t) (last_of t) rest
 abbrev pub Branches : Type 0
 Branches = Branch × Branch
 
--- those of the condition for whose answer this waits; behind this the rest is left, and around it are other branches
+-- those of the condition for whose answer this waits; after this the rest is left, and around it are other branches
 abbrev pub awaited : Waiting → Tasks → Branches → Branches
 awaited Waiting.Not rest around = (around.1, around.0)
 awaited (Waiting.Both d) rest around = (go_on (task (test (condition_of d.now) around.0 around.1) done), around.1)
@@ -60,7 +60,7 @@ answered (Task.Waits w) rest around = awaited w rest around
 answered _ rest around = (stops, stops)
 
 -- ---- tasks
--- this is to be done, and then the rest; behind a condition there are only its branches
+-- this is to be done, and then the rest; after a condition there are only its branches
 abbrev pub first : Task → Tasks → Branches → Tasks
 first (Task.Perform a more) rest around =
     task (perform (statement_of a.now)) (in_a_row (stmts_of (map statement_of more.now)) rest)

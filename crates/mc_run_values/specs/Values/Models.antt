@@ -35,12 +35,12 @@ abbrev pub applied_of : Result (Option ℤ) FaultKind → List Choice → Evalua
 applied_of (Ok v) choices = value_of v choices
 applied_of (Err kind) choices = fault_of kind
 
--- what the variables hold and the heap behind a change, or its fault
+-- what the variables hold and the heap after a change, or its fault
 abbrev pub change_of : Result Unit FaultKind → Values → Heap → Changed
 change_of (Ok done) values heap = changed values heap
 change_of (Err kind) values heap = fault_in kind
 
--- on the way from these lines to those, something comes to this, or asks for an input in vain
+-- on the way from these lines to those, something comes to this, or asks for an input without success
 abbrev pub IsAnswered : List StructInfo → (List Choice → Evaluated → Type 0) → (List Choice → List Choice → Type 0)
     → List (List ℕ) → code.Evaluated → List (List ℕ) → Type 0
 IsAnswered structs Comes Asks old (Value v) new = WithTaken structs old new (λ choices rest. Comes choices (value_of v rest))

@@ -13,7 +13,7 @@ Takes structs lines [] left = left ≡ lines
 Takes structs [] (c ∷ cs) left = ⊥
 Takes structs (line ∷ lines) (c ∷ cs) left = IsChoice structs line c × Takes structs lines cs left
 
--- this is so with the choices that are taken on the way from these lines to those, whatever choices stand behind them
+-- this is so with the choices that are taken on the way from these lines to those, whatever choices stand after them
 abbrev pub WithTaken : List StructInfo → List (List ℕ) → List (List ℕ) → (List Choice → List Choice → Type 0) → Type 0
 WithTaken structs old new IsSo = (used : List Choice) × Takes structs old used new × ((rest : List Choice) → IsSo (used ++ rest) rest)
 

@@ -99,7 +99,7 @@ abbrev pub hand_weight : Hand → ℕ
 hand_weight (Hand.Expression e) = weight (expression_of e.now)
 hand_weight (Hand.Value v) = 0
 
--- less is left behind a turn
+-- less is left after a turn
 abbrev pub Falls : Hand → List Pending → Turn → List Pending → Type 0
 Falls hand ps (Turn.Goes next) qs = hand_weight next + stack_weight qs < hand_weight hand + stack_weight ps
 Falls hand ps (Turn.Ends answer) qs = Unit {0}

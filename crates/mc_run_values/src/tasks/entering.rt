@@ -20,8 +20,7 @@ pub fn push_test<'a>(
         left tasks.new ≡ task (test (condition_of condition.now) branches.0 branches.1) done) }
 {
     tasks.push(Task::Waits(waiting))?;
-    tasks.push(Task::Test(condition))?;
-    Ok(())
+    tasks.push(Task::Test(condition))
 }
 
 /// A loop is at its condition, if it has one.
@@ -30,14 +29,8 @@ pub fn push_again<'a>(tasks: &mut Stack<Task<'a>>, turns: Turns<'a>) -> Result<(
         ≡ tested (condition_in turns.entry) (turn_of turns.entry (left tasks.old)) (left tasks.old)) }
 {
     match turns.condition {
-        None => {
-            tasks.push(Task::Always(turns))?;
-            Ok(())
-        }
-        Some(condition) => {
-            push_test(tasks, Waiting::Loop(turns), condition)?;
-            Ok(())
-        }
+        None => tasks.push(Task::Always(turns)),
+        Some(condition) => push_test(tasks, Waiting::Loop(turns), condition),
     }
 }
 
@@ -56,8 +49,7 @@ pub fn push_while<'a>(
         last: None,
     };
     tasks.push(Task::EndLoop(&[]))?;
-    tasks.push(Task::Again(turns))?;
-    Ok(())
+    tasks.push(Task::Again(turns))
 }
 
 /// A `do` is entered.
@@ -75,8 +67,7 @@ pub fn push_do<'a>(
         last: None,
     };
     tasks.push(Task::EndLoop(&[]))?;
-    push_turn(tasks, turns)?;
-    Ok(())
+    push_turn(tasks, turns)
 }
 
 /// A `for` is entered.
@@ -95,8 +86,7 @@ pub fn push_for<'a>(
     };
     tasks.push(Task::EndLoop(head.variables.as_slice()))?;
     tasks.push(Task::Again(turns))?;
-    push_start(tasks, &head.start)?;
-    Ok(())
+    push_start(tasks, &head.start)
 }
 
 /// What a `for` begins with is next.
@@ -106,12 +96,8 @@ fn push_start<'a>(tasks: &mut Stack<Task<'a>>, start: &'a ForStart) -> Result<()
     match start {
         ForStart::Nothing => Ok(()),
         ForStart::Declaration(place, items) => {
-            tasks.push(Task::Declare(*place, items.as_slice()))?;
-            Ok(())
+            tasks.push(Task::Declare(*place, items.as_slice()))
         }
-        ForStart::Simple(simple) => {
-            tasks.push(Task::Simple(simple))?;
-            Ok(())
-        }
+        ForStart::Simple(simple) => tasks.push(Task::Simple(simple)),
     }
 }

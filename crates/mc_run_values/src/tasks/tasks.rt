@@ -48,7 +48,7 @@ pub enum Waiting<'a> {
 /// A thing to do.
 #[derive(Drop)]
 pub enum Task<'a> {
-    /// A statement, and those behind it in its row.
+    /// A statement, and those after it in its row.
     Perform(&'a Statement, &'a [Statement]),
     /// Declarators of a declaration.
     Declare(Place, &'a [Initial]),
@@ -59,7 +59,7 @@ pub enum Task<'a> {
     Always(Turns<'a>),
     Test(&'a Condition),
     Waits(Waiting<'a>),
-    /// The end of a block, whose variables are undefined behind it.
+    /// The end of a block, whose variables are undefined after it.
     EndBlock(&'a [usize]),
     /// The end of a loop, the same.
     EndLoop(&'a [usize]),
@@ -88,8 +88,7 @@ pub fn push_turn<'a>(tasks: &mut Stack<Task<'a>>, turns: Turns<'a>) -> Result<()
         tasks.push(Task::Simple(last))?;
     }
     tasks.push(Task::EndTurn)?;
-    tasks.push(Task::Perform(turns.body, &[]))?;
-    Ok(())
+    tasks.push(Task::Perform(turns.body, &[]))
 }
 
 /// The result of a call is next, if it is wanted.
@@ -103,16 +102,11 @@ pub fn push_result<'a>(
     match target {
         Target::Nowhere => Ok(()),
         Target::Variable(variable, place) => {
-            tasks.push(Task::TakeResult(Target::Variable(variable, place), value))?;
-            Ok(())
+            tasks.push(Task::TakeResult(Target::Variable(variable, place), value))
         }
         Target::Stored(left_value, place) => {
-            tasks.push(Task::TakeResult(Target::Stored(left_value, place), value))?;
-            Ok(())
+            tasks.push(Task::TakeResult(Target::Stored(left_value, place), value))
         }
-        Target::Returned(place) => {
-            tasks.push(Task::TakeResult(Target::Returned(place), value))?;
-            Ok(())
-        }
+        Target::Returned(place) => tasks.push(Task::TakeResult(Target::Returned(place), value)),
     }
 }

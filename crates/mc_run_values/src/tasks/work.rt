@@ -18,7 +18,7 @@ pub struct Work<'a> {
     alloc: Global,
 }
 
-/// Lets go of its parts. What holds one calls this.
+/// Drops its parts. What holds one calls this.
 impl Drop for Work<'_> {
     fn drop(self) {
         let Work {
@@ -47,7 +47,7 @@ impl<'a> Work<'a> {
     ghost use Rattle.mc_run_values.specs.Tasks.Leading.{chosen, led_to};
     ghost use Rattle.mc_run_values.specs.Tasks.Going.{Advances, Comes, branches_of, tasks_of, values_of};
 
-    /// A function without arguments begins, and nothing is left behind it.
+    /// A function without arguments begins, and nothing is left after it.
     pub fn start(alloc: Global, function: &'a Function) -> Result<Work<'a>, NoMemory>
         ensures tasks { IfOk result (λ work. tasks_of work ≡ (start (function_of function.now)).tasks) }
         ensures values { IfOk result (λ work. values_of work ≡ (start (function_of function.now)).values) }
@@ -106,13 +106,9 @@ impl<'a> Work<'a> {
         match task {
             Task::Perform(statement, more) => {
                 push_row(&mut self.tasks, more)?;
-                let found = self.enter(statement)?;
-                Ok(found)
+                self.enter(statement)
             }
-            Task::Declare(place, items) => {
-                let found = self.declare(place, items)?;
-                Ok(found)
-            }
+            Task::Declare(place, items) => self.declare(place, items),
             Task::Simple(simple) => Ok(Some(Next::Simple(simple))),
             Task::Again(turns) => {
                 push_again(&mut self.tasks, turns)?;
@@ -122,10 +118,7 @@ impl<'a> Work<'a> {
                 push_turn(&mut self.tasks, turns)?;
                 Ok(Some(Next::Always))
             }
-            Task::Test(condition) => {
-                let found = self.take_apart(condition)?;
-                Ok(found)
-            }
+            Task::Test(condition) => self.take_apart(condition),
             Task::Waits(_) => Ok(Some(Next::Done)),
             Task::EndBlock(variables) => {
                 undefine(&mut self.values, variables);
@@ -250,7 +243,7 @@ impl<'a> Work<'a> {
         }
     }
 
-    // Goes behind the innermost loop, if there is one.
+    // Goes after the innermost loop, if there is one.
     fn leave_loop(&mut self) -> bool
         ensures { behind_loop (values_of self.old) (tasks_of self.old)
             ≡ (if result then Some (values_of self.new, tasks_of self.new) else None) }
@@ -336,8 +329,7 @@ impl<'a> Work<'a> {
         let values = first_values(self.alloc, locals, function.parameters, arguments)?;
         let saved = mem::replace(&mut self.values, values);
         self.tasks.push(Task::EndCall(saved, target))?;
-        push_row(&mut self.tasks, function.body.as_slice())?;
-        Ok(())
+        push_row(&mut self.tasks, function.body.as_slice())
     }
 
     /// The function goes back with its result; from the entry, nothing is left.

@@ -12,7 +12,7 @@ use mc_base::FaultKind;
 use mc_flow::heap::Heap;
 use mc_semantics::resolved::{FieldAt, LeftValue};
 
-// A field behind a pointer gets a value.
+// A field after a pointer gets a value.
 fn put(
     heap: &mut Heap,
     field: &FieldAt,
@@ -40,7 +40,7 @@ fn put(
     }
 }
 
-/// The last of these fields behind a value gets a value. With a fault nothing changes.
+/// The last of these fields after a value gets a value. With a fault nothing changes.
 pub fn assign_behind(
     heap: &mut Heap,
     base: Option<i64>,

@@ -122,14 +122,8 @@ fn take_turn<'a>(
     ensures falls { IfOk result (λ turn. Falls hand.entry stack.old turn stack.new) }
 {
     match hand {
-        Hand::Expression(expression) => {
-            let turn = enter(alloc, here, script, stack, expression)?;
-            Ok(turn)
-        }
-        Hand::Value(value) => {
-            let turn = resume(stack, value)?;
-            Ok(turn)
-        }
+        Hand::Expression(expression) => enter(alloc, here, script, stack, expression),
+        Hand::Value(value) => resume(stack, value),
     }
 }
 
@@ -160,7 +154,7 @@ pub struct Evaluator<'a> {
     alloc: Global,
 }
 
-/// Lets go of its parts. What holds one calls this.
+/// Drops its parts. What holds one calls this.
 impl Drop for Evaluator<'_> {
     fn drop(self) {
         let Evaluator { stack, alloc: _ } = self;
@@ -187,8 +181,7 @@ impl<'a> Evaluator<'a> {
             (expression_of expression.now) script.old answer script.new) }
     {
         empty(&mut self.stack);
-        let answer = run_turns(self.alloc, here, script, &mut self.stack, expression)?;
-        Ok(answer)
+        run_turns(self.alloc, here, script, &mut self.stack, expression)
     }
 
     /// What arguments come to, one after the other.

@@ -35,7 +35,7 @@ fn found_in(answer: Read) -> Result<Option<i64>, FaultKind>
     }
 }
 
-/// What a field behind a pointer holds.
+/// What a field after a pointer holds.
 pub fn loaded(heap: &Heap, field: &FieldAt, pointer: Option<i64>) -> Result<Option<i64>, FaultKind>
     ensures { found_of result ≡ loaded heap.now (field_of field.now) pointer }
 {

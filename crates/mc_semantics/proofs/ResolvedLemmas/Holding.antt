@@ -12,7 +12,7 @@ use Rattle.mc_semantics.specs.Resolved.Resolving.{number_in, numbers_in}
 use Rattle.mc_semantics.specs.Resolved.Running.{IsKnown, AreKnown, Agree}
 
 -- ---- places
-both_true : (a b : Bool) → (a && b) ≡ true → (a ≡ true) × (b ≡ true)
+pub both_true : (a b : Bool) → (a && b) ≡ true → (a ≡ true) × (b ≡ true)
 both_true true b e = (refl, e)
 both_true false b e = absurd (grind (arith, e))
 

@@ -29,11 +29,11 @@ passed_length zero (x ∷ locals) vs = ap suc (passed_length zero locals vs)
 passed_length (suc k) (x ∷ locals) [] = ap suc (passed_length k locals [])
 passed_length (suc k) (x ∷ locals) (v ∷ vs) = ap suc (passed_length k locals vs)
 
--- what is held behind the first variable
+-- what is held after the first variable
 held_later : (v : Option ℤ) (values : Values) (n : ℕ) → held (v ∷ values) (1 + n) ≡ held values n
 held_later v values n = let e : 1 + n ≡ suc n = omega arith in rw e refl
 
--- a variable that is known behind the first one
+-- a variable that is known after the first one
 known_later : (x : Variable) (locals : List Variable) (p : Place) → is_place x.place p ≡ false → IsKnown (x ∷ locals) p → IsKnown locals p
 known_later x locals p miss known =
     let P : Bool → Type 0 = λ b. cond (not b) (1 + number_in locals p) 0 < length (x ∷ locals) in

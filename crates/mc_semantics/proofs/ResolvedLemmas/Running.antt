@@ -246,10 +246,10 @@ pub step_alike : (t : Tables) (defs : List Def) (entry : List ℕ) (c : named.Co
 step_alike t defs entry c d choices m = let both = steps_both t defs entry c d choices m in record { forth = both.0; back = both.1 }
 
 -- what is the same as an end is that end, and what is the same as going on goes on
-end_of : (t : Tables) (defs : List Def) {f : Final} {s : Result} → SameResult t defs (last f) s → s ≡ last f
+pub end_of : (t : Tables) (defs : List Def) {f : Final} {s : Result} → SameResult t defs (last f) s → s ≡ last f
 end_of t defs both_end = refl
 
-end_from : (t : Tables) (defs : List Def) {f : Final} {r : named.Result} → SameResult t defs r (last f) → r ≡ last f
+pub end_from : (t : Tables) (defs : List Def) {f : Final} {r : named.Result} → SameResult t defs r (last f) → r ≡ last f
 end_from t defs both_end = refl
 
 abbrev Goes : Tables → List Def → named.Config → List Choice → Result → Type 0
@@ -258,10 +258,10 @@ Goes t defs c left s = (d : Config) × (s ≡ next d left) × Match t defs c d
 on_of : (t : Tables) (defs : List Def) {c : named.Config} {left : List Choice} {s : Result} → SameResult t defs (next c left) s → Goes t defs c left s
 on_of t defs (both_go {d = d} m) = (d, refl, m)
 
-abbrev Went : Tables → List Def → Config → List Choice → named.Result → Type 0
+abbrev pub Went : Tables → List Def → Config → List Choice → named.Result → Type 0
 Went t defs d left r = (c : named.Config) × (r ≡ next c left) × Match t defs c d
 
-on_from : (t : Tables) (defs : List Def) {d : Config} {left : List Choice} {r : named.Result} → SameResult t defs r (next d left) → Went t defs d left r
+pub on_from : (t : Tables) (defs : List Def) {d : Config} {left : List Choice} {r : named.Result} → SameResult t defs r (next d left) → Went t defs d left r
 on_from t defs (both_go {c = c} m) = (c, refl, m)
 
 runs_forth : (t : Tables) (defs : List Def) (entry : List ℕ) (n : ℕ) (c : named.Config) (d : Config) (choices : List Choice) (final : Final) → Match t defs c d

@@ -172,7 +172,7 @@ fine_arrived t (here e) fine = fine
 fine_arrived t {v = v} {ts = ts} (there {later = later} {next = onward} e more) fine =
     (let P : Option (Values × Tasks) → Type 0 = λ o. FineThere t o in fine_arrived t more (subst P e (fine_moved t v ts fine)))
 
--- ---- behind a step
+-- ---- after a step
 abbrev pub FineResult : Tables → Result → Type 0
 FineResult t (next d rest) = Fine t d.tasks
 FineResult t (last f) = Unit {0}

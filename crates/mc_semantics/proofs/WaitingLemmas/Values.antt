@@ -92,7 +92,7 @@ module _ (h : Here) (e : Expr) (place : Place) (choices : List Choice) (go : Opt
       ])
 
 -- ---- never both
-no_input : (choices left : List Choice) (one : Evaluated) → IsInput choices one → left ≡ choices → IsUnanswered an_input left → ⊥
+pub no_input : (choices left : List Choice) (one : Evaluated) → IsInput choices one → left ≡ choices → IsUnanswered an_input left → ⊥
 no_input choices left one is e w = (let P : List Choice → Type 0 = λ l. IsUnanswered an_input l in answers choices one is (subst P e w))
   where
     answers : (all : List Choice) (r : Evaluated) → IsInput all r → IsUnanswered an_input all → ⊥
@@ -141,7 +141,7 @@ module _ (same : ValuesAreDetermined) where
       → WithValue h e place choices go r → ValueAsks h e choices left → ⊥
   with_value_alone h e place choices left go r w is asks = value_alone h e choices left is.0 w is.1 asks
 
-  -- and goes on with what is behind it
+  -- and goes on with what is after it
   pub with_value_behind : (h : Here) (e : Expr) (place : Place) (choices : List Choice) (go : Option ℤ → List Choice → Result → Type 0) (r : Result) (v : Option ℤ) (rest : List Choice)
       → WithValue h e place choices go r → Evaluates h e choices (value_of v rest) → go v rest r
   with_value_behind h e place choices go r v rest is comes =

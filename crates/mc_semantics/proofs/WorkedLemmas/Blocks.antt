@@ -5,7 +5,7 @@ use Rattle.mc_base.specs.declared.plain.FaultKind.TheVariants.{Uninit}
 use Rattle.mc_flow.specs.Runs.{ended, fault}
 use Rattle.mc_semantics.specs.Examples.{at, Comes}
 use Rattle.mc_semantics.specs.Worked.Programs.{forgetting, going_on, deeply_returning, missing_result, ComesWithDeep}
-use Rattle.mc_semantics.proofs.WorkedLemmas.Running.{arrived}
+use Rattle.mc_semantics.proofs.Examples.{arrived}
 
 pub forgetting_faults : Comes forgetting 11 [] (fault Uninit (at 13))
 unfolding int_wrap

@@ -162,7 +162,7 @@ step p c choices = stepped (arrive 20 p.tables c.values c.tasks (moved p.tables 
     stepped None = None
     stepped (Some a) = told (λ r does_so. (r, (a.0, a.1, a.2, does_so))) (does p a.0 c.heap a.1 choices)
 
--- what a run comes to behind a step
+-- what a run comes to after a step
 abbrev behind : (n : ℕ) (p : Program) (c : Config) (choices : List Choice) (r : Result) → Step p c choices r → ((d : Config) (rest : List Choice) → Found (Reaches (Step p) n d rest)) → Found (Reaches (Step p) (suc n) c choices)
 behind n p c choices (last f) is more = Some (f, inl is)
 behind n p c choices (next d rest) is more = told (λ f comes. (f, inr (d, rest, is, comes))) (more d rest)

@@ -8,7 +8,8 @@ use Rattle.mc_flow.specs.Heap.Heap.{Block, Region, region_of}
 use Rattle.mc_flow.specs.Heap.Parts.{IsEmpty}
 use Rattle.mc_semantics.specs.Examples.{at, Comes}
 use Rattle.mc_semantics.specs.Worked.Programs.{keeping, reading_undefined, storing_at_null, reading_freed, freeing_twice, freeing_null, empty_at_first, not_empty, empty_again}
-use Rattle.mc_semantics.proofs.WorkedLemmas.Running.{arrived, no_block, is_there, is_gone, all_gone, seen, frees, stores, new, holding, fresh, holding_in_turn}
+use Rattle.mc_semantics.proofs.WorkedLemmas.Running.{no_block, is_there, is_gone, all_gone, seen, frees, stores, new, holding, fresh, holding_in_turn}
+use Rattle.mc_semantics.proofs.Examples.{arrived}
 
 pub keeping_ends : Comes keeping 6 (choose_malloc 7 ∷ []) ended
 keeping_ends =

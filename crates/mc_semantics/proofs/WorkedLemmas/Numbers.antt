@@ -6,7 +6,8 @@ use Rattle.mc_flow.specs.Runs.{ended}
 use Rattle.mc_flow.specs.Heap.Choices.{malloc as choose_malloc}
 use Rattle.mc_semantics.specs.Examples.{Comes}
 use Rattle.mc_semantics.specs.Worked.Programs.{counting, wrapping, computing}
-use Rattle.mc_semantics.proofs.WorkedLemmas.Running.{arrived, no_block, is_there, seen, stores, combines, new, holding, fresh, holding_in_turn}
+use Rattle.mc_semantics.proofs.WorkedLemmas.Running.{no_block, is_there, seen, stores, combines, new, holding, fresh, holding_in_turn}
+use Rattle.mc_semantics.proofs.Examples.{arrived}
 
 pub counting_ends : Comes counting 10 (choose_malloc 7 ∷ []) ended
 unfolding int_wrap

@@ -18,7 +18,8 @@ use Rattle.mc_semantics.specs.Values.{Evaluated, evaluated, Found, faulty, found
 use Rattle.mc_semantics.specs.Worked.Orders.{linking, result_in_field, storing_undefined, storing_behind, adding_undefined, assuming_undefined, asserting_undefined}
 use Rattle.mc_semantics.specs.Worked.Programs.{ComesWithLists}
 use Rattle.mc_semantics.specs.Worked.Turns.{asserting_of_undefined}
-use Rattle.mc_semantics.proofs.WorkedLemmas.Running.{arrived, no_block, is_there, seen, frees, stores, put_in, new, holding, fresh}
+use Rattle.mc_semantics.proofs.WorkedLemmas.Running.{no_block, is_there, seen, frees, stores, put_in, new, holding, fresh}
+use Rattle.mc_semantics.proofs.Examples.{arrived}
 
 -- ---- a node at 7 whose next one is at 9
 abbrev linked : Block
@@ -45,7 +46,7 @@ nine_of_joined = grind (arith, gets, nat_tests)
 seven_of_filled : Some linked ≡ region_of filled 7
 seven_of_filled = grind (arith, gets, nat_tests)
 
--- what comes of reading `data` behind `next` of what is at an address
+-- what comes of reading `data` after `next` of what is at an address
 abbrev seen_behind : List Choice → Heap → Option Block → Evaluated
 seen_behind choices heap o = evaluated (after_found (read (field_at o 0 1)) (λ w. after_found (look w) (λ v. found v))) choices
   where

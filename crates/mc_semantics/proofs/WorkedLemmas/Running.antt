@@ -1,5 +1,5 @@
 -- What a run is made of: the moves before a step, and what is read and written in a heap.
-use Rattle.std.proofs.Common.{◌≡◌, ℕ, zero, suc, ℤ, pos, List, [], ◌∷◌, Option, Some, None, refl, ap, arith}
+use Rattle.std.proofs.Common.{◌≡◌, ℕ, ℤ, pos, List, [], ◌∷◌, Option, Some, None, ap, arith}
 use Rattle.std.specs.Prelude.{is_some, if◌then◌else◌}
 use Rattle.std.specs.FinMap as map
 use Rattle.std.specs.FinMap.{gets}
@@ -10,30 +10,12 @@ use Rattle.mc_flow.specs.Heap.Access.{block_field, field_at, fresh_block, with_f
 use Rattle.mc_flow.specs.Heap.Choices.{Choice}
 use Rattle.mc_flow.specs.Heap.Heap.{Block, Heap, region_of}
 use Rattle.mc_flow.specs.Values.{wrapped}
-use Rattle.mc_c_types.specs.Tables.{Tables}
 use Rattle.mc_semantics.specs.Configs.{Values, Tasks}
-use Rattle.mc_semantics.specs.Moves.{moved, Arrives, here, there}
+use Rattle.mc_semantics.specs.Moves.{there}
 use Rattle.mc_semantics.specs.Steps.{after}
 use Rattle.mc_semantics.specs.Values.{Evaluated, evaluated, Found, faulty, found, after_found, read, Changed, fault_in, changed}
 
 -- ---- moves
-abbrev ahead : (Values → Tasks → Values × Tasks) → Values → Tasks → Option (Values × Tasks) → Values × Tasks
-ahead go v ts None = (v, ts)
-ahead go v ts (Some next) = go next.0 next.1
-
--- where so many moves lead at most
-abbrev pub led : ℕ → Tables → Values → Tasks → Values × Tasks
-led zero t v ts = (v, ts)
-led (suc n) t v ts = ahead (λ w us. led n t w us) v ts (moved t v ts)
-
-arrived_on : (t : Tables) (go : Values → Tasks → Values × Tasks) → ((v : Values) (ts : Tasks) → moved t (go v ts).0 (go v ts).1 ≡ None → Arrives t v ts (go v ts).0 (go v ts).1) → (v : Values) (ts : Tasks) (o : Option (Values × Tasks)) → moved t v ts ≡ o → moved t (ahead go v ts o).0 (ahead go v ts o).1 ≡ None → Arrives t v ts (ahead go v ts o).0 (ahead go v ts o).1
-arrived_on t go far v ts None e none = here e
-arrived_on t go far v ts (Some next) e none = there e (far next.0 next.1 none)
-
-pub arrived : (n : ℕ) (t : Tables) (v : Values) (ts : Tasks) → moved t (led n t v ts).0 (led n t v ts).1 ≡ None → Arrives t v ts (led n t v ts).0 (led n t v ts).1
-arrived zero t v ts none = here none
-arrived (suc n) t v ts none = arrived_on t (λ w us. led n t w us) (λ w us more. arrived n t w us more) v ts (moved t v ts) refl none
-
 -- ---- heaps
 pub no_block : (at : ℕ) → region_of map.empty at ≡ None
 no_block at = grind (arith, gets, nat_tests)

@@ -16,7 +16,8 @@ use Rattle.mc_flow.specs.Defs.Meaning.{BlockMeets, SatAt, Sat, HoldsSomewhere}
 use Rattle.mc_flow.specs.Defs.Values.{value_of, IsTrueAtom}
 use Rattle.mc_semantics.specs.Examples.{at}
 use Rattle.mc_semantics.specs.Worked.Programs.{assuming_list, asserting_no_list, ComesWithLists}
-use Rattle.mc_semantics.proofs.WorkedLemmas.Running.{arrived, no_block, is_there, new, fresh}
+use Rattle.mc_semantics.proofs.WorkedLemmas.Running.{no_block, is_there, new, fresh}
+use Rattle.mc_semantics.proofs.Examples.{arrived}
 
 -- ---- a list of one node
 joins_self : (o : Option Block) → Joins o o None

@@ -1,4 +1,4 @@
--- Small programs, and what is left of them when their names are put away.
+-- Small programs, and what is left of them when their names are resolved.
 use Rattle.std.specs.Prelude.{ℕ, List, [], ◌∷◌, Some, None, codes}
 use Rattle.mc_base.specs.declared.plain.Kind.TheVariants.{Int as int_kind, Ptr as pointer_kind}
 use Rattle.mc_c_syntax.specs.Ast.Trees as tree
@@ -9,7 +9,7 @@ use Rattle.mc_semantics.specs.Resolved.Programs.{declares, declaration, block, s
 use Rattle.mc_semantics.specs.Resolved.Programs.{returns, Stmts, no_more, then, Local, Function, Program}
 use Rattle.mc_semantics.specs.Resolved.Resolving.{resolved_program}
 
--- the resolved program of these statements in `main`, behind a struct of two fields and a function `f`
+-- the resolved program of these statements in `main`, after a struct of two fields and a function `f`
 abbrev pub resolved : List tree.Stmt → Program
 resolved ss = resolved_program (tables_of (unit_of ss)) [] (codes "main")
 
@@ -41,7 +41,7 @@ with_main locals body =
       defs = [];
     }
 
--- `int x = 1; { int x = x; } f(x);`: the inner variable is visible in its own value, and hidden again behind its block
+-- `int x = 1; { int x = x; } f(x);`: the inner variable is visible in its own value, and hidden again after its block
 abbrev pub hiding : List tree.Stmt
 hiding =
     int_is 1 x_word (Some (tree.expression (num 2 1)))

@@ -31,7 +31,7 @@ abbrev pub tested : Option Cond → Tasks → Tasks → Tasks
 tested None go rest = task (always go) done
 tested (Some c) go rest = task (test c (go_on go) (go_on rest)) done
 
--- behind the end of the innermost loop, or at the end of its turn: the variables of the blocks that are left are undefined
+-- after the end of the innermost loop, or at the end of its turn: the variables of the blocks that are left are undefined
 abbrev pub behind_loop : Values → Tasks → Option (Values × Tasks)
 behind_loop values done = None
 behind_loop values (task (end_loop xs) rest) = Some (without xs values, rest)

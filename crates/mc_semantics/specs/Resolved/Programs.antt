@@ -11,7 +11,7 @@ pub record FieldAt : Type 0 where
   pub shape : ℕ
   pub field : ℕ
 
--- a variable by its number among those of its function, and the fields behind it
+-- a variable by its number among those of its function, and the fields after it
 pub record Left : Type 0 where
   pub variable : ℕ
   pub fields : List FieldAt
@@ -72,7 +72,7 @@ pub data Start : Type 0 where
   declares : Place → List Initial → Start
   performs : Simple → Start
 
--- what stands in the parentheses of a `for`, and the variables that it declares, which are undefined behind it
+-- what stands in the parentheses of a `for`, and the variables that it declares, which are undefined after it
 pub record Head : Type 0 where
   pub place : Place
   pub start : Start

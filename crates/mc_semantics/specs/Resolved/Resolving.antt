@@ -1,4 +1,4 @@
--- What is left of a program when its names are put away: each name is resolved in its scope.
+-- What is left of a program when its names are resolved: each name is resolved in its scope.
 use Rattle.std.specs.Prelude.{ℕ, pos, ◌-ℤ◌, List, [], ◌∷◌, ◌++◌, map, filter, reverse, length, option_map}
 use Rattle.std.specs.Option.{option_map_or}
 use Rattle.std.specs.List.{position_or_len}

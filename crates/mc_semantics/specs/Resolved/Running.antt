@@ -58,7 +58,7 @@ mutual
         {goal : Target} {rest : named.Tasks} {more : Tasks}
         → Agree caller saved values → SameTarget t defs caller target goal → SameTasks t defs caller rest more
         → SameTasks t defs locals (named.task (named.end_call saved target) rest) (task (end_call values goal) more)
-    -- nothing is left behind a test but its branches
+    -- nothing is left after a test but its branches
     tests : {locals vs : List Variable} {c : tree.Cond} {a b : named.Branch} {x y : Branch} → AreKnown locals vs
         → SameBranch t defs locals a x → SameBranch t defs locals b y
         → SameTasks t defs locals (named.task (named.test vs c a b) named.done)

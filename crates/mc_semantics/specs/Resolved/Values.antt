@@ -11,7 +11,7 @@ use Rattle.mc_semantics.specs.Values.{Found, faulty, found, read, after_found, E
 use Rattle.mc_semantics.specs.Resolved.Programs.{FieldAt, Left, Expr, number, input, value, minus, times, plus, difference}
 use Rattle.mc_semantics.specs.Resolved.Configs.{Values, held, with_variable}
 
--- a field behind a pointer that may be undefined
+-- a field after a pointer that may be undefined
 abbrev pub loaded : Heap → FieldAt → Option ℤ → Found
 loaded heap f None = faulty Uninit
 loaded heap f (Some p) = if address p == 0 then faulty Null else read (field_at (region_of heap (address p)) f.shape f.field)
@@ -47,7 +47,7 @@ written values heap at f v None = fault_in Freed
 written values heap at f v (Some block) =
     if is_some (block_field block f.shape f.field) then changed values (map.insert heap at (with_field block f.field v)) else fault_in Freed
 
--- a field behind a pointer is written; the value is taken first, then the pointer
+-- a field after a pointer is written; the value is taken first, then the pointer
 abbrev pub put : Values → Heap → FieldAt → Option ℤ → Option ℤ → Changed
 put values heap f None v = fault_in Uninit
 put values heap f (Some v) None = fault_in Uninit
@@ -62,7 +62,7 @@ abbrev pub behind_base : Found → (Option ℤ → Changed) → Changed
 behind_base (faulty kind) go = fault_in kind
 behind_base (found v) go = go v
 
--- the last field is written, behind what the fields before it lead to
+-- the last field is written, after what the fields before it lead to
 abbrev pub assigned_behind : Values → Heap → Option ℤ → FieldAt → List FieldAt → Option ℤ → Changed
 assigned_behind values heap base f [] v = put values heap f v base
 assigned_behind values heap base f (g ∷ gs) v = behind_base (loaded heap f base) (λ w. assigned_behind values heap w g gs v)

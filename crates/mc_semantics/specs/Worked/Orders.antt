@@ -12,7 +12,7 @@ next_at n = record { name = name n p_word; fields = name n (codes "next") ∷ []
 abbrev pub next_data_at : ℕ → Left
 next_data_at n = record { name = name n p_word; fields = name n (codes "next") ∷ name n (codes "data") ∷ [] }
 
--- ---- blocks behind blocks
+-- ---- blocks after blocks
 -- `struct node *p = malloc(sizeof(struct node)); p->next = malloc(sizeof(struct node)); p->next->data = 3; assert(p->next->data == 3); p = p->next; free(p);`
 abbrev pub linking : List Stmt
 linking =

@@ -84,7 +84,7 @@ hidden_by_head =
     ∷ returns (at 69) (Some (expression (num 76 0)))
     ∷ []
 
--- `int main(){ for (int i = 0; i < 1; i++) int i = -1; assert(i == -1); }`: behind the loop its variable is seen
+-- `int main(){ for (int i = 0; i < 1; i++) int i = -1; assert(i == -1); }`: after the loop its variable is seen
 abbrev pub hiding_ends : List Stmt
 hiding_ends =
     for_loop (counted 13 1)

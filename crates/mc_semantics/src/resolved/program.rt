@@ -1,8 +1,10 @@
 // Resolved programs: variables, fields, structs, functions and predicates are numbers.
 use mc_base::text::{Place, Text};
+use mc_base::trees::Several::{Many, Two};
+use mc_base::trees::{Parts, Several, Tree, drop_tree};
 use mc_base::{Kind, PredId, StructId};
 use mc_c_syntax::ast::Comparison;
-use std::mem;
+use std::convert::Infallible;
 
 /// A field by its number, and the struct that it belongs to.
 #[derive(Clone, Copy, Debug, PartialEq, Eq)]
@@ -11,7 +13,7 @@ pub struct FieldAt {
     pub field: usize,
 }
 
-/// A variable by its number among those of its function, and the fields behind it.
+/// A variable by its number among those of its function, and the fields after it.
 #[derive(Drop)]
 pub struct LeftValue {
     pub variable: usize,
@@ -29,36 +31,35 @@ pub enum Expression {
     Difference(Box<Expression>, Box<Expression>),
 }
 
-/// A loop, so that a tree of any depth needs no more stack than a leaf does, and no memory either. What is at hand is taken apart,
-/// and at most one tree waits. Where a second one has to wait, a new node joins the two, in the box of the part that comes to hand.
 impl Drop for Expression {
-    fn drop(mut self) {
-        let mut waiting = None;
-        loop {
-            match self {
-                Expression::Number(_) | Expression::Input | Expression::Value(_) => match waiting {
-                    Some(next) => {
-                        self = next;
-                        waiting = None;
-                    }
-                    None => return,
-                },
-                Expression::Minus(part) => {
-                    self = Box::into_inner(part);
-                }
-                Expression::Times(mut first, second)
-                | Expression::Plus(mut first, second)
-                | Expression::Difference(mut first, second) => match waiting {
-                    Some(next) => {
-                        self = mem::replace(&mut *first, next);
-                        waiting = Some(Expression::Times(second, first));
-                    }
-                    None => {
-                        self = Box::into_inner(first);
-                        waiting = Some(Box::into_inner(second));
-                    }
-                },
-            }
+    fn drop(self) {
+        drop_tree(self);
+    }
+}
+
+impl Tree for Expression {
+    ghost use Rattle.mc_base.specs.Trees.{Holds};
+    ghost use Rattle.mc_semantics.specs.Resolved.Sizes.{expression_size};
+
+    type Rest = Infallible;
+
+    ghost size = { expression_size };
+
+    fn parts(self) -> Parts<Expression, Infallible> {
+        match self {
+            Expression::Number(_) | Expression::Input | Expression::Value(_) => Parts::Nothing,
+            Expression::Minus(part) => Parts::One(part),
+            Expression::Times(first, second)
+            | Expression::Plus(first, second)
+            | Expression::Difference(first, second) => Parts::Several(Two(first, second)),
+        }
+    }
+
+    fn holding(trees: Several<Expression, Infallible>) -> Expression
+        ensures { Holds expression_size result trees }
+    {
+        match trees {
+            Two(first, second) => Expression::Times(first, second),
         }
     }
 }
@@ -73,35 +74,35 @@ pub enum Condition {
     Either(Box<Condition>, Box<Condition>),
 }
 
-/// A loop, as that of an expression.
 impl Drop for Condition {
-    fn drop(mut self) {
-        let mut waiting = None;
-        loop {
-            match self {
-                Condition::Plain(_, _) | Condition::Compare(_, _, _, _) => match waiting {
-                    Some(next) => {
-                        self = next;
-                        waiting = None;
-                    }
-                    None => return,
-                },
-                Condition::Not(part) => {
-                    self = Box::into_inner(part);
-                }
-                Condition::Both(mut first, second) | Condition::Either(mut first, second) => {
-                    match waiting {
-                        Some(next) => {
-                            self = mem::replace(&mut *first, next);
-                            waiting = Some(Condition::Both(second, first));
-                        }
-                        None => {
-                            self = Box::into_inner(first);
-                            waiting = Some(Box::into_inner(second));
-                        }
-                    }
-                }
+    fn drop(self) {
+        drop_tree(self);
+    }
+}
+
+impl Tree for Condition {
+    ghost use Rattle.mc_base.specs.Trees.{Holds};
+    ghost use Rattle.mc_semantics.specs.Resolved.Sizes.{condition_size};
+
+    type Rest = Infallible;
+
+    ghost size = { condition_size };
+
+    fn parts(self) -> Parts<Condition, Infallible> {
+        match self {
+            Condition::Plain(_, _) | Condition::Compare(_, _, _, _) => Parts::Nothing,
+            Condition::Not(part) => Parts::One(part),
+            Condition::Both(first, second) | Condition::Either(first, second) => {
+                Parts::Several(Two(first, second))
             }
+        }
+    }
+
+    fn holding(trees: Several<Condition, Infallible>) -> Condition
+        ensures { Holds condition_size result trees }
+    {
+        match trees {
+            Two(first, second) => Condition::Both(first, second),
         }
     }
 }
@@ -171,7 +172,7 @@ pub struct AssertShape {
 /// A statement, at its first token; `assert` and `assume` are at the first token of their condition.
 pub enum Statement {
     Declaration(Place, Vec<Initial>),
-    /// A block, with the variables that are undefined behind its end.
+    /// A block, with the variables that are undefined after its end.
     Block(Vec<usize>, Vec<Statement>),
     /// `;`
     Empty,
@@ -192,167 +193,57 @@ pub enum Statement {
     Return(Place, Option<RightSide>),
 }
 
-// The statements in a statement.
-enum Inside {
-    Nothing,
-    One(Box<Statement>),
-    // Those of an `if` with an `else`, with its condition.
-    Two(Place, Condition, Box<Statement>, Box<Statement>),
-    Many(Vec<usize>, Vec<Statement>),
-}
-
-impl Statement {
-    ghost use Rattle.mc_semantics.specs.Resolved.Weights.{whole_inside, whole_statement, lone_inside, lone_statement};
-    ghost use Rattle.std.specs.Prelude.{◌≡◌};
-
-    // The statements in it; all else is let go of.
-    fn inside(self) -> Inside
-        ensures whole { whole_inside result ≡ whole_statement self }
-        ensures lone { lone_inside result ≡ lone_statement self }
-    {
-        match self {
-            Statement::Declaration(_, items) => {
-                drop(items);
-                Inside::Nothing
-            }
-            Statement::Simple(simple) => {
-                drop(simple);
-                Inside::Nothing
-            }
-            Statement::Free(_, pointer) => {
-                drop(pointer);
-                Inside::Nothing
-            }
-            Statement::Assert(_, condition) => {
-                drop(condition);
-                Inside::Nothing
-            }
-            Statement::Assume(_, condition) => {
-                drop(condition);
-                Inside::Nothing
-            }
-            Statement::AssumeShape(shape) => {
-                drop(shape);
-                Inside::Nothing
-            }
-            Statement::AssertShape(shape) => {
-                drop(shape);
-                Inside::Nothing
-            }
-            Statement::Return(_, value) => {
-                drop(value);
-                Inside::Nothing
-            }
-            Statement::Empty => Inside::Nothing,
-            Statement::AssertEmpty(_) => Inside::Nothing,
-            Statement::Break(_) => Inside::Nothing,
-            Statement::Continue(_) => Inside::Nothing,
-            Statement::If(_, condition, part) => {
-                drop(condition);
-                Inside::One(part)
-            }
-            Statement::While(_, condition, part) => {
-                drop(condition);
-                Inside::One(part)
-            }
-            Statement::Do(_, part, condition) => {
-                drop(condition);
-                Inside::One(part)
-            }
-            Statement::For(head, part) => {
-                drop(head);
-                Inside::One(part)
-            }
-            Statement::IfElse(place, condition, first, second) => {
-                Inside::Two(place, condition, first, second)
-            }
-            Statement::Block(variables, parts) => Inside::Many(variables, parts),
-        }
-    }
-}
-
-/// A loop, as that of an expression. A block waits with its own statements; where another tree waits already, that one takes the
-/// place of the statement that comes to hand.
 impl Drop for Statement {
-    fn drop(mut self) {
-        let mut waiting = None;
-        loop {
-            match self.inside() {
-                Inside::Nothing => match waiting {
-                    Some(next) => {
-                        self = next;
-                        waiting = None;
-                    }
-                    None => return,
-                },
-                Inside::One(part) => self = Box::into_inner(part),
-                Inside::Two(place, condition, mut first, second) => match waiting {
-                    Some(next) => {
-                        self = mem::replace(&mut *first, next);
-                        waiting = Some(Statement::IfElse(place, condition, second, first));
-                    }
-                    None => {
-                        drop(condition);
-                        self = Box::into_inner(first);
-                        waiting = Some(Box::into_inner(second));
-                    }
-                },
-                Inside::Many(variables, parts) => match waiting {
-                    Some(next) => {
-                        let (part, rest) = exchanged(variables, parts, next);
-                        self = part;
-                        waiting = rest;
-                    }
-                    None => match taken(variables, parts) {
-                        Some((part, rest)) => {
-                            self = part;
-                            waiting = rest;
-                        }
-                        None => return,
-                    },
-                },
+    fn drop(self) {
+        drop_tree(self);
+    }
+}
+
+impl Tree for Statement {
+    ghost use Rattle.mc_base.specs.Trees.{Holds};
+    ghost use Rattle.mc_semantics.specs.Resolved.Sizes.{statement_size};
+
+    /// The variables of a block.
+    type Rest = Vec<usize>;
+
+    ghost size = { statement_size };
+
+    fn parts(self) -> Parts<Statement, Vec<usize>> {
+        match self {
+            Statement::Declaration(_, _) | Statement::Simple(_) => Parts::Nothing,
+            Statement::Free(_, _) | Statement::Return(_, _) => Parts::Nothing,
+            Statement::Assert(_, _) | Statement::Assume(_, _) => Parts::Nothing,
+            Statement::AssumeShape(_) | Statement::AssertShape(_) => Parts::Nothing,
+            Statement::Empty | Statement::AssertEmpty(_) => Parts::Nothing,
+            Statement::Break(_) | Statement::Continue(_) => Parts::Nothing,
+            Statement::If(_, _condition, part)
+            | Statement::While(_, _condition, part)
+            | Statement::Do(_, part, _condition) => Parts::One(part),
+            Statement::For(_head, part) => Parts::One(part),
+            Statement::IfElse(_, _condition, first, second) => {
+                Parts::Several(Two(first, second))
             }
+            Statement::Block(variables, statements) => {
+                Parts::Several(Many(variables, statements))
+            }
+        }
+    }
+
+    fn holding(trees: Several<Statement, Vec<usize>>) -> Statement
+        ensures { Holds statement_size result trees }
+    {
+        match trees {
+            Two(first, second) => {
+                let place = Place { line: 0, column: 0 };
+                let condition = Condition::Plain(place, Expression::Input);
+                Statement::IfElse(place, condition, first, second)
+            }
+            Many(variables, statements) => Statement::Block(variables, statements),
         }
     }
 }
 
-ghost use Rattle.mc_semantics.specs.Resolved.Weights.{left_of_statements, lone_statement, whole_statement};
-ghost use Rattle.mc_semantics.specs.declared.resolved.program.Statement.TheVariants as Statement;
-ghost use Rattle.std.specs.Prelude.{◌<◌, ◌+◌, IfSome};
-
-// The first statement of a block, and the block with another in its place.
-fn exchanged(
-    variables: Vec<usize>,
-    mut parts: Vec<Statement>,
-    next: Statement,
-) -> (Statement, Option<Statement>)
-    ensures { left_of_statements result.0 result.1 < whole_statement (Statement.Block variables parts) + lone_statement next }
-{
-    if parts.is_empty() {
-        parts.destroy_empty();
-        return (next, None);
-    }
-    let first = mem::replace(&mut parts[0], next);
-    (first, Some(Statement::Block(variables, parts)))
-}
-
-// The last statement of a block, and the block of those before it.
-fn taken(variables: Vec<usize>, mut parts: Vec<Statement>) -> Option<(Statement, Option<Statement>)>
-    ensures { IfSome result (λ both. left_of_statements both.0 both.1 < lone_statement (Statement.Block variables parts)) }
-{
-    let Some(last) = parts.pop() else {
-        parts.destroy_empty();
-        return None;
-    };
-    if parts.is_empty() {
-        parts.destroy_empty();
-        Some((last, None))
-    } else {
-        Some((last, Some(Statement::Block(variables, parts))))
-    }
-}
-
-/// What stands in the parentheses of a `for`, and the variables that it declares, which are undefined behind it.
+/// What stands in the parentheses of a `for`, and the variables that it declares, which are undefined after it.
 #[derive(Drop)]
 pub struct ForHead {
     pub place: Place,

@@ -30,7 +30,7 @@ pub fn blocks_are_used()
     ensures null { Comes storing_at_null 2 (choose_malloc 0 ∷ []) (fault Null (at 3)) }
 {}
 
-/// A block behind another, written, read and freed; and the result of a call in a field.
+/// A block after another, written, read and freed; and the result of a call in a field.
 pub fn blocks_are_linked()
     ensures linking { Comes linking 7 (choose_malloc 7 ∷ choose_malloc 9 ∷ []) ended }
     ensures result { Comes result_in_field 7 (choose_malloc 7 ∷ []) ended }
@@ -46,7 +46,7 @@ pub fn values_are_taken_in_order()
     ensures asserted_first { ComesWithLists asserting_undefined 2 [] (fault Uninit (at 2)) }
 {}
 
-/// A field that is read behind the `free` of its block; a block that is freed twice; and null, which may be freed.
+/// A field that is read after the `free` of its block; a block that is freed twice; and null, which may be freed.
 pub fn blocks_are_freed()
     ensures reading { Comes reading_freed 4 (choose_malloc 7 ∷ []) (fault Freed (at 8)) }
     ensures twice { Comes freeing_twice 3 (choose_malloc 7 ∷ []) (fault BadFree (at 5)) }
@@ -60,7 +60,7 @@ pub fn numbers_are_counted()
     ensures computing { Comes computing 3 [] ended }
 {}
 
-/// `assert_empty` before a block is allocated, while there is one, and behind its `free`.
+/// `assert_empty` before a block is allocated, while there is one, and after its `free`.
 pub fn heaps_are_empty()
     ensures first { Comes empty_at_first 2 [] ended }
     ensures not_empty { Comes not_empty 2 (choose_malloc 7 ∷ []) (fault NotEmpty (at 3)) }

@@ -94,7 +94,7 @@ module _ {G M : Type 0} (w : Space G M) where
       let s = all_split (IsMet w n) (w.calls g m) gs (log ++ m ∷ []) after both.0 in
       ((s.0, (m, a, s.1), all_map (IsMet w n) (IsMet w (suc n)) (λ g l a. met_more n g l a) gs s.0 after s.2), both.1)
 
-  -- where the marks behind these goals lead on, so do those of the goals
+  -- where the marks after these goals lead on, so do those of the goals
   abbrev pub LeadsOn : List G → List M → List M → Type 0
   LeadsOn gs log mid = (n : ℕ) (rest : List G) (after : List M) → Leads w n rest mid after → (k : ℕ) × Leads w k (gs ++ rest) log after
 

@@ -43,7 +43,7 @@ numbered n (e ∷ es) = (record { 0 = n }, e) ∷ numbered (suc n) es
 abbrev pub with_only : Graph → Edges → Graph
 with_only g es = record { edges = es; next = g.next }
 
--- the graph with new edges behind its own
+-- the graph with new edges after its own
 abbrev pub with_new : Graph → List Edge → Graph
 with_new g new = record { edges = g.edges ++ numbered g.next new; next = g.next + length new }
 

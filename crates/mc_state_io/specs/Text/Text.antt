@@ -48,7 +48,7 @@ abbrev pub is_name_of : List VarInfo → Text → Bool
 is_name_of vars name = list_any (λ v. bytes_eq v.name name) vars
 
 -- a variable with these before it: a temporary, which has no name, is $ and its number; the first of a name is the name, and a
--- later one has its number behind a point
+-- later one has its number after a point
 abbrev pub var_name : List VarInfo → ℕ → Text → Text
 var_name before x [] = codes "$" ++ decimal x
 var_name before x (c ∷ name) = if is_name_of before (c ∷ name) then (c ∷ name) ++ codes "." ++ decimal x else c ∷ name

@@ -9,7 +9,7 @@ use mc_flow::defs::{Def, FieldInfo, StructInfo};
 use mc_state::graph::Edge;
 use std::alloc::Global;
 
-/// Adds a node and others behind it, parted by commas.
+/// Adds a node and others after it, parted by commas.
 fn push_nodes(
     alloc: Global,
     out: &mut Vec<u8>,

@@ -12,8 +12,7 @@ fn push_signed(alloc: Global, out: &mut Vec<u8>, number: i64) -> Result<(), NoMe
     ensures { OnOk result (out.new.items ≡ out.old.items ++ signed_decimal number) }
 {
     let text = format!(in alloc; "{number}")?;
-    out.extend_from_slice(text.as_bytes())?;
-    Ok(())
+    out.extend_from_slice(text.as_bytes())
 }
 
 /// Adds a node.

@@ -1,6 +1,6 @@
 -- Edges at places, in the order of their ids.
-use Rattle.std.proofs.Common.{◌≡◌, ◌≢◌, ℕ, zero, suc, ◌<◌, ◌≤◌, ◌+◌, ◌-◌, ◌⊎◌, inl, inr, List, [], ◌∷◌, ◌++◌, length, Bool, true, false, Some, None, slice_get, get_or, take, drop, map, refl, sym, ap, subst, ◌∙◌, arith}
-use Rattle.std.specs.Prelude.{◌==◌, if◌then◌else◌, slice_set}
+use Rattle.std.proofs.Common.{◌≡◌, ◌≢◌, ℕ, zero, suc, ◌<◌, ◌≤◌, ◌+◌, ◌-◌, ◌⊎◌, inl, inr, [], ◌∷◌, ◌++◌, length, true, false, Some, None, slice_get, get_or, take, map, refl, sym, ap, subst, ◌∙◌, arith}
+use Rattle.std.specs.Prelude.{◌==◌, slice_set}
 use Rattle.std.specs.List.{remove}
 use Rattle.std.proofs.lemmas.Option.{slice_get_within, slice_get-get_or}
 use Rattle.mc_base.specs.declared.ids.EdgeId.{EdgeId}
@@ -167,27 +167,6 @@ found_replaced (e ∷ es) id zero new s =
     let same = (s.1 0 e refl).1 refl in
     rw (equals e.0 id same) (ap (λ (z : EdgeId). (z, new) ∷ es) same)
 found_replaced (e ∷ es) id (suc i) new s = rw (differs e.0 id (not_first e es id i s)) (ap (λ (z : Edges). e ∷ z) (found_replaced es id i new (tail_stands e es id i s)))
-
--- ids stay in order
-pub ids_lower : (low bound : ℕ) (es : Edges) (high : ℕ) → low ≤ bound → IdsAscend bound es high → IdsAscend low es high
-ids_lower low bound [] high less a = tt
-ids_lower low bound (e ∷ es) high less a = let first = a.0 in (omega arith, a.1, a.2)
-
-pub ids_without : (low : ℕ) (es : Edges) (high : ℕ) (id : EdgeId) → IdsAscend low es high → IdsAscend low (without es id) high
-ids_without low [] high id a = tt
-ids_without low (e ∷ es) high id a = at (ids_without (suc e.0.0) es high id a.2) (e.0.0 == id.0)
-  where
-    at : IdsAscend (suc e.0.0) (without es id) high → (here : Bool) → IdsAscend low (if here then es else e ∷ without es id) high
-    at rest true = let first = a.0 in ids_lower low (suc e.0.0) es high (omega arith) a.2
-    at rest false = (a.0, a.1, rest)
-
-pub ids_replaced : (low : ℕ) (es : Edges) (high : ℕ) (id : EdgeId) (new : Edge) → IdsAscend low es high → IdsAscend low (replaced es id new) high
-ids_replaced low [] high id new a = tt
-ids_replaced low (e ∷ es) high id new a = at (ids_replaced (suc e.0.0) es high id new a.2) (e.0.0 == id.0)
-  where
-    at : IdsAscend (suc e.0.0) (replaced es id new) high → (here : Bool) → IdsAscend low (if here then (e.0, new) ∷ es else e ∷ replaced es id new) high
-    at rest true = a
-    at rest false = (a.0, a.1, rest)
 
 pub ids_pushed : (low next : ℕ) (es : Edges) (id : EdgeId) (e : Edge) → low ≤ next → id.0 ≡ next → IdsAscend low es next → IdsAscend low (es ++ (id, e) ∷ []) (next + 1)
 ids_pushed low next [] id e l q a = (omega arith, omega arith, tt)

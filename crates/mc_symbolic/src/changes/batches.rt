@@ -9,7 +9,7 @@ ghost use Rattle.mc_state.specs.State.{next_node, numbered_nodes, with_atoms, wi
 use crate::State;
 use mc_base::{Atom, EdgeId, Kind, NoMemory, NodeId, VarId};
 
-/// Adds a new node of each kind, and puts them behind others. Without memory the state is lost.
+/// Adds a new node of each kind, and puts them after others. Without memory the state is lost.
 pub fn add_nodes(s: &mut State, kinds: &[Kind], nodes: &mut Vec<NodeId>) -> Result<(), NoMemory>
     ensures nodes { OnOk result (nodes.new.items ≡ nodes.old.items ++ numbered_nodes s.old.next (length kinds.now)) }
     ensures state { OnOk result (s.new ≡ with_nodes s.old kinds.now) }

@@ -18,7 +18,7 @@ pub struct Graph {
     next: u64,
 }
 
-/// Lets go of the edges. What holds a graph calls this.
+/// Drops the edges. What holds a graph calls this.
 impl Drop for Graph {
     fn drop(self) {
         let Graph { edges, next: _ } = self;

@@ -9,8 +9,8 @@ use Rattle.mc_load.specs.Inputs.Texts.{IsWellFormed}
 use Rattle.mc_lower.specs.declared.lowering.Lowered.{Lowered}
 use Rattle.mc_load.specs.Lowered.Graphs.{IsGraphOf}
 use Rattle.mc_app.proofs.Safe.{has_entry, safe_graph}
-use Rattle.mc_app.proofs.Whys.{only_ok}
 use Rattle.mc_app.proofs.analysing.analyse_bound.Goals as goal
+use Rattle.mc_load.proofs.InputsLemmas.Picking.{only_ok}
 
 pub graph-requires : goal.graph-requires
 graph-requires c = subst (λ (s : List ℕ). IsWellFormed s (unit_of c.args.bound.now.typed.unit)) (sym c.requires.start) c.requires.well_formed

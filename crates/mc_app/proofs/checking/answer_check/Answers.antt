@@ -1,7 +1,8 @@
 use Rattle.mc_c_syntax.specs.Ast.Views.{unit_of}
 use Rattle.mc_app.specs.declared.words.words.Request.TheVariants as request
-use Rattle.mc_app.proofs.Whys.{at_err, at_ok, stay_checked}
+use Rattle.mc_app.proofs.Whys.{stay_checked}
 use Rattle.mc_app.proofs.checking.answer_check.Goals as goal
+use Rattle.mc_load.proofs.InputsLemmas.Picking.{at_err, at_ok}
 
 pub returns-in-Err-clause-why : goal.returns-in-Err-clause-why
 returns-in-Err-clause-why g c = λ words asks. (request.Check c.args.names, asks, at_err c.in_ok-refusal.field-0 c.in-Err.refusal _ _ c.in-Err.is c.in_ok-refusal.ensures.read)

@@ -8,8 +8,8 @@ use Rattle.mc_document.specs.declared.judge.verdict.Verdict.TheVariants.{Safe}
 use Rattle.mc_app.specs.Documents.{IsVerdictOn}
 use Rattle.mc_load.specs.Lowered.Graphs.{IsGraphOf}
 use Rattle.mc_app.proofs.Safe.{has_entry, safe_graph}
-use Rattle.mc_app.proofs.Whys.{only_ok}
 use Rattle.mc_app.proofs.checking.check.Goals as goal
+use Rattle.mc_load.proofs.InputsLemmas.Picking.{only_ok}
 
 pub graph-requires : goal.graph-requires
 graph-requires g c = subst (λ (s : List ℕ). IsWellFormed s (unit_of c.args.bound.now.typed.unit)) (sym c.requires.start) c.requires.well_formed

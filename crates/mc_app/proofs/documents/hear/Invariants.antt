@@ -4,7 +4,7 @@ use Rattle.mc_outside.specs.Outside.{Stays, WhereTold}
 use Rattle.mc_app.specs.Documents.{IsHeard}
 use Rattle.mc_app.proofs.documents.hear.Given as goal
 
--- the judge has heard the front of what is held, and no call has failed
+-- the judge has read the front of what is held, and no call has failed
 abbrev pub invariant-loop-at : goal.invariant-loop-at
 invariant-loop-at g l = record {
   heard : (text : List ℕ) × IsHeard text l.judge × WhereTold (g.F.Files.holds l.fn.files l.name) (λ bytes. text ≡ take l.at bytes);

@@ -2,8 +2,8 @@ use Rattle.std.proofs.Common.{◌∙◌, ℕ, List, subst}
 use Rattle.mc_c_syntax.specs.Ast.Views.{unit_of}
 use Rattle.mc_lines.specs.Cert.Lines.{lines_of}
 use Rattle.mc_run.specs.Interpret.Programs.{ProgramRuns}
-use Rattle.mc_app.proofs.Whys.{at_some}
 use Rattle.mc_app.proofs.running.run.Goals as goal
+use Rattle.mc_load.proofs.InputsLemmas.Picking.{at_some}
 
 pub returns-in_ok-ending-in-Some-clause-why : goal.returns-in_ok-ending-in-Some-clause-why
 returns-in_ok-ending-in-Some-clause-why g c = λ bytes h.

@@ -2,8 +2,9 @@ use Rattle.std.proofs.Common.{List, ℕ, map, subst, sym}
 use Rattle.std.specs.Prelude.{None, Option, Some, string_bytes}
 use Rattle.mc_app.specs.Answers.{HasTarget}
 use Rattle.mc_app.proofs.Asked.{has_target, safe_for_words}
-use Rattle.mc_app.proofs.Whys.{at_none, at_some}
+use Rattle.mc_app.proofs.Whys.{at_none}
 use Rattle.mc_app.proofs.top.found.Goals as goal
+use Rattle.mc_load.proofs.InputsLemmas.Picking.{at_some}
 
 pub returns-in_ok-answer-in-Some-clause-why : goal.returns-in_ok-answer-in-Some-clause-why
 returns-in_ok-answer-in-Some-clause-why g c =

@@ -2,59 +2,8 @@ use Rattle.mc_check_line.specs.Judging.{path, setting_of}
 use Rattle.mc_check_line.proofs.Forms.{at_line}
 use Rattle.mc_check_line.proofs.lines.judge.Goals as goal
 
-pub returns-in-S1 : goal.returns-in-S1
-returns-in-S1 c = λ k asked. at_line k c.args.flow.now c.args.defs.now (setting_of c.args.setting) c.args.line.now _ (path c.args.branch) _ c.in-S1.is (c.step.ensures k asked)
-
-pub returns-in-S2 : goal.returns-in-S2
-returns-in-S2 c = λ k asked. at_line k c.args.flow.now c.args.defs.now (setting_of c.args.setting) c.args.line.now _ (path c.args.branch) _ c.in-S2.is (c.step-in-S2.ensures k asked)
-
-pub returns-in-S3 : goal.returns-in-S3
-returns-in-S3 c = λ k asked. at_line k c.args.flow.now c.args.defs.now (setting_of c.args.setting) c.args.line.now _ (path c.args.branch) _ c.in-S3.is (c.step-in-S3.ensures k asked)
-
-pub returns-in-S4 : goal.returns-in-S4
-returns-in-S4 c = λ k asked. at_line k c.args.flow.now c.args.defs.now (setting_of c.args.setting) c.args.line.now _ (path c.args.branch) _ c.in-S4.is (c.step-in-S4.ensures k asked)
-
-pub returns-in-S5 : goal.returns-in-S5
-returns-in-S5 c = λ k asked. at_line k c.args.flow.now c.args.defs.now (setting_of c.args.setting) c.args.line.now _ (path c.args.branch) _ c.in-S5.is (c.step-in-S5.ensures k asked)
-
-pub returns-in-S6 : goal.returns-in-S6
-returns-in-S6 c = λ k asked. at_line k c.args.flow.now c.args.defs.now (setting_of c.args.setting) c.args.line.now _ (path c.args.branch) _ c.in-S6.is (c.step-in-S6.ensures k asked)
-
-pub returns-in-S7 : goal.returns-in-S7
-returns-in-S7 c = λ k asked. at_line k c.args.flow.now c.args.defs.now (setting_of c.args.setting) c.args.line.now _ (path c.args.branch) _ c.in-S7.is (c.step-in-S7.ensures k asked)
-
-pub returns-in-S8 : goal.returns-in-S8
-returns-in-S8 c = λ k asked. at_line k c.args.flow.now c.args.defs.now (setting_of c.args.setting) c.args.line.now _ (path c.args.branch) _ c.in-S8.is (c.step-in-S8.ensures k asked)
-
-pub returns-in-S9 : goal.returns-in-S9
-returns-in-S9 c = λ k asked. at_line k c.args.flow.now c.args.defs.now (setting_of c.args.setting) c.args.line.now _ (path c.args.branch) _ c.in-S9.is (c.step-in-S9.ensures k asked)
-
-pub returns-in-S10 : goal.returns-in-S10
-returns-in-S10 c = λ k asked. at_line k c.args.flow.now c.args.defs.now (setting_of c.args.setting) c.args.line.now _ (path c.args.branch) _ c.in-S10.is (c.step-in-S10.ensures k asked)
-
-pub returns-in-S11 : goal.returns-in-S11
-returns-in-S11 c = λ k asked. at_line k c.args.flow.now c.args.defs.now (setting_of c.args.setting) c.args.line.now _ (path c.args.branch) _ c.in-S11.is (c.step-in-S11.ensures k asked)
-
-pub returns-in-S12 : goal.returns-in-S12
-returns-in-S12 c = λ k asked. at_line k c.args.flow.now c.args.defs.now (setting_of c.args.setting) c.args.line.now _ (path c.args.branch) _ c.in-S12.is (c.step-in-S12.ensures k asked)
-
-pub returns-in-S13 : goal.returns-in-S13
-returns-in-S13 c = λ k asked. at_line k c.args.flow.now c.args.defs.now (setting_of c.args.setting) c.args.line.now _ (path c.args.branch) _ c.in-S13.is (c.step-in-S13.ensures k asked)
-
-pub returns-in-S14 : goal.returns-in-S14
-returns-in-S14 c = λ k asked. at_line k c.args.flow.now c.args.defs.now (setting_of c.args.setting) c.args.line.now _ (path c.args.branch) _ c.in-S14.is (c.step-in-S14.ensures k asked)
-
-pub returns-in-S15 : goal.returns-in-S15
-returns-in-S15 c = λ k asked. at_line k c.args.flow.now c.args.defs.now (setting_of c.args.setting) c.args.line.now _ (path c.args.branch) _ c.in-S15.is (c.step-in-S15.ensures k asked)
-
-pub returns-in-S16 : goal.returns-in-S16
-returns-in-S16 c = λ k asked. at_line k c.args.flow.now c.args.defs.now (setting_of c.args.setting) c.args.line.now _ (path c.args.branch) _ c.in-S16.is (c.step-in-S16.ensures k asked)
-
-pub returns-in-S17 : goal.returns-in-S17
-returns-in-S17 c = λ k asked. at_line k c.args.flow.now c.args.defs.now (setting_of c.args.setting) c.args.line.now _ (path c.args.branch) _ c.in-S17.is (c.step-in-S17.ensures k asked)
-
-pub returns-in-S18 : goal.returns-in-S18
-returns-in-S18 c = λ k asked. at_line k c.args.flow.now c.args.defs.now (setting_of c.args.setting) c.args.line.now _ (path c.args.branch) _ c.in-S18.is (c.step-in-S18.ensures k asked)
+pub returns-in-Step : goal.returns-in-Step
+returns-in-Step c = λ k asked. at_line k c.args.flow.now c.args.defs.now (setting_of c.args.setting) c.args.line.now _ (path c.args.branch) _ c.in-Step.is (c.step.ensures k asked)
 
 pub returns-in-L1 : goal.returns-in-L1
 returns-in-L1 c = λ k asked. at_line k c.args.flow.now c.args.defs.now (setting_of c.args.setting) c.args.line.now _ (path c.args.branch) _ c.in-L1.is (c.ind.ensures (k.know c.args.branch.state) asked.given.tells)

@@ -13,7 +13,7 @@ zip_length R [] (y ∷ ys) a = absurd a
 zip_length R (x ∷ xs) [] a = absurd a
 zip_length R (x ∷ xs) (y ∷ ys) a = let more = zip_length R xs ys a.1 in omega arith
 
--- the items at an index go together: the rests do where those behind do
+-- the items at an index go together: the rests do where those after do
 zip_more : {A B : Type 0} (R : A → B → Type 0) (xs : List A) (ys : List B) (i : ℕ) (d : A) (e : B) → i < length xs → length xs ≡ length ys → R (get_or xs i d) (get_or ys i e)
     → AllZip R (drop i xs) (drop i ys) ↔ AllZip R (drop (i + 1) xs) (drop (i + 1) ys)
 zip_more R xs ys i d e lt same here =

@@ -4,19 +4,18 @@ use Rattle.mc_base.specs.declared.ids.PointId.{PointId}
 use Rattle.mc_flow.specs.declared.graph.Flow.{Flow}
 use Rattle.mc_flow.specs.declared.instr.Instr.{Instr}
 use Rattle.mc_state.specs.Known.{Test}
+use Rattle.mc_state.specs.declared.line.InstrRule.{InstrRule}
 use Rattle.mc_state.specs.State.{State}
 use Rattle.mc_rules_steps.specs.Judges.{stepping_code}
 use Rattle.mc_rules_steps.specs.Sums.{Ranges}
 use Rattle.mc_apply_steps.specs.Step.Stepped.{Steps}
 use Rattle.mc_apply_steps.specs.declared.step.next.Refused.{Refused}
 use Rattle.mc_apply_steps.specs.declared.step.next.Stepped.{Stepped}
-use Rattle.mc_apply_steps.specs.Instructions.Named.{named}
-use Rattle.mc_apply_steps.specs.declared.instructions.rule.InstrRule.{InstrRule}
 use Rattle.mc_apply_steps.proofs.instructions.dispatch.step_at.Goals as goal
 
 -- what the rule gives at the instruction, as an answer
 abbrev Gives : Test → Ranges → Flow → PointId → Instr → State → Result Stepped Refused → InstrRule → Type 0
-Gives know range flow p code s answer rule = Steps (stepping_code know range flow (named rule) p (Some code) s) s answer
+Gives know range flow p code s answer rule = Steps (stepping_code know range flow rule p (Some code) s) s answer
 
 pub returns-in-S1 : goal.returns-in-S1
 returns-in-S1 c = λ know range tells fit.

@@ -6,10 +6,8 @@ use Rattle.mc_lower_spec.specs.Lowering.{Lowers, frees, emptiness_asserted}
 use Rattle.mc_lower.specs.Left.{around_of}
 use Rattle.mc_lower.specs.Worlds.{stage_of}
 use Rattle.mc_lower.proofs.Meeting.{checked_fail, checked_end}
-use Rattle.mc_lower.proofs.Seen.{free_statement_seen, assert_statement_seen, assume_statement_seen}
-use Rattle.mc_lower.proofs.Seen.{assume_shape_statement_seen, assert_shape_statement_seen, assert_empty_statement_seen}
-use Rattle.mc_lower.proofs.Seen.{break_statement_seen, continue_statement_seen}
 use Rattle.mc_lower.proofs.builder.Builder.command.Goals as goal
+use Rattle.mc_lower_spec.proofs.LengthLemmas.Seen.{assert_empty_statement_seen, assert_shape_statement_seen, assert_statement_seen, assume_shape_statement_seen, assume_statement_seen, break_statement_seen, continue_statement_seen, free_statement_seen}
 
 pub returns-in_ok-free-in-Free-clause-leads : goal.returns-in_ok-free-in-Free-clause-leads
 returns-in_ok-free-in-Free-clause-leads c = λ w agrees.

@@ -9,9 +9,9 @@ use Rattle.mc_lower_spec.specs.Values.{an_input, a_difference, Evaluates, Comput
 use Rattle.mc_lower.specs.declared.values.How.{How}
 use Rattle.mc_lower.specs.Valued.{IsValue}
 use Rattle.mc_lower.specs.Worlds.{stage_of}
-use Rattle.mc_lower.proofs.Seen.{number_seen, input_seen, value_seen, minus_seen, times_seen, plus_seen, difference_seen}
 use Rattle.mc_lower.proofs.Valuing.{number_made, join_valued}
 use Rattle.mc_lower.proofs.builder.Builder.compute.Goals as goal
+use Rattle.mc_lower_spec.proofs.LengthLemmas.Seen.{difference_seen, input_seen, minus_seen, number_seen, plus_seen, times_seen, value_seen}
 
 pub returns-in-Number-clause-leads : goal.returns-in-Number-clause-leads
 returns-in-Number-clause-leads c = λ w agrees.

@@ -12,9 +12,9 @@ use Rattle.mc_lower.specs.declared.values.How.{How}
 use Rattle.mc_lower.specs.declared.values.Work.{Work}
 use Rattle.mc_lower.specs.Valued.{Finishes}
 use Rattle.mc_lower.specs.Worlds.{stage_of}
-use Rattle.mc_lower.proofs.Seen.{number_seen, input_seen, value_seen, minus_seen, times_seen, plus_seen, difference_seen}
 use Rattle.mc_lower.proofs.Valuing.{valued, one_made, number_made, minus_made, join_made}
 use Rattle.mc_lower.proofs.builder.Builder.enter.Goals as goal
+use Rattle.mc_lower_spec.proofs.LengthLemmas.Seen.{difference_seen, input_seen, minus_seen, number_seen, plus_seen, times_seen, value_seen}
 
 pub returns-in_ok-push-in-Number-clause-leads : goal.returns-in_ok-push-in-Number-clause-leads
 returns-in_ok-push-in-Number-clause-leads c = λ w o ts u agrees rest.

@@ -7,9 +7,9 @@ use Rattle.mc_lower.specs.Ready.{AreTestsReady, IsTestReady}
 use Rattle.mc_lower.specs.Valued.{Testing, froms}
 use Rattle.mc_lower.proofs.Agreeing.{points_in, variables_in}
 use Rattle.mc_lower.proofs.Having.{test_over, tests_over, tests_under}
-use Rattle.mc_lower.proofs.Seen.{plain_condition_seen, compare_condition_seen, not_condition_seen, both_condition_seen, either_condition_seen}
 use Rattle.mc_lower.proofs.Testing.{one_tested, not_tested, both_tested, either_tested}
 use Rattle.mc_lower.proofs.builder.Builder.enter_condition.Goals as goal
+use Rattle.mc_lower_spec.proofs.LengthLemmas.Seen.{both_condition_seen, compare_condition_seen, either_condition_seen, not_condition_seen, plain_condition_seen}
 
 pub returns-in_ok-test_plain-in-Plain-clause-leads : goal.returns-in_ok-test_plain-in-Plain-clause-leads
 returns-in_ok-test_plain-in-Plain-clause-leads c = λ w n k agrees rest.

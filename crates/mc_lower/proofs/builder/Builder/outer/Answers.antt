@@ -7,10 +7,8 @@ use Rattle.mc_semantics.specs.Resolved.Views.{condition_of, head_of, statement_o
 use Rattle.mc_lower_spec.specs.Lowering.{Lowers}
 use Rattle.mc_lower.specs.Left.{around_of}
 use Rattle.mc_lower.specs.Worlds.{stage_of}
-use Rattle.mc_lower.proofs.Seen.{block_statement_seen}
-use Rattle.mc_lower.proofs.Seen.{if_statement_seen, if_else_statement_seen}
-use Rattle.mc_lower.proofs.Seen.{while_statement_seen, do_statement_seen, for_statement_seen}
 use Rattle.mc_lower.proofs.builder.Builder.outer.Goals as goal
+use Rattle.mc_lower_spec.proofs.LengthLemmas.Seen.{block_statement_seen, do_statement_seen, for_statement_seen, if_else_statement_seen, if_statement_seen, while_statement_seen}
 
 pub returns-in_ok-block-in-Block-clause-leads : goal.returns-in_ok-block-in-Block-clause-leads
 returns-in_ok-block-in-Block-clause-leads c = λ w u agrees rest.

@@ -12,9 +12,8 @@ use Rattle.mc_lower_spec.specs.Lowering.{Declares, Lowers, declarations, simples
 use Rattle.mc_lower.specs.Left.{around_of}
 use Rattle.mc_lower.specs.Worlds.{stage_of}
 use Rattle.mc_lower.proofs.Resting.{copied_map, pushed}
-use Rattle.mc_lower.proofs.Seen.{declaration_statement_seen, empty_statement_seen, simple_statement_seen}
-use Rattle.mc_lower.proofs.Seen.{return_statement_seen}
 use Rattle.mc_lower.proofs.builder.Builder.statement.Goals as goal
+use Rattle.mc_lower_spec.proofs.LengthLemmas.Seen.{declaration_statement_seen, empty_statement_seen, return_statement_seen, simple_statement_seen}
 
 pub returns-in_ok-push-in-Declaration-clause-leads : goal.returns-in_ok-push-in-Declaration-clause-leads
 returns-in_ok-push-in-Declaration-clause-leads c = λ w u agrees rest.

@@ -3,8 +3,8 @@ use Rattle.std.proofs.lemmas.Int.{ints, to_z-of_z}
 use mir.Syntax.{w128}
 use mir.Val.{SFits, to_z, of_z}
 use lib.Signed.{lt_z}
-use Rattle.mc_pure_ops.proofs.CanonLemmas.Clean.{fits_small}
 use Rattle.mc_pure_ops.proofs.canon.gaps.are_apart.Goals as goal
+use Rattle.mc_pure.proofs.Clean.{fits_small}
 
 low_than : (a b c : ℤ) → SFits w128 a → SFits w128 b → SFits w128 c → SFits w128 (b +ℤ c) → lt_z (to_z w128 (of_z w128 a)) (to_z w128 (of_z w128 (to_z w128 (of_z w128 b) +ℤ to_z w128 (of_z w128 c)))) ≡ true → a <ℤ (b +ℤ c)
 low_than a b c f g h k e = let x = simp to_z-of_z at e in grind (arith, ints)

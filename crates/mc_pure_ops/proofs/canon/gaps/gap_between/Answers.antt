@@ -2,8 +2,8 @@ use Rattle.std.proofs.Common.{◌≡◌, arith, rules}
 use Rattle.std.proofs.lemmas.Int.{ints}
 use mir.Syntax.{w64}
 use mir.Val.{SFits}
-use Rattle.mc_pure_ops.proofs.CanonLemmas.Clean.{same_cast, fits_small}
 use Rattle.mc_pure_ops.proofs.canon.gaps.gap_between.Goals as goal
+use Rattle.mc_pure.proofs.Clean.{fits_small, same_cast}
 
 pub returns-clause-by : goal.returns-clause-by
 returns-clause-by c =

@@ -1,8 +1,8 @@
 use Rattle.std.proofs.Common.{◌≡◌, arith}
 use Rattle.std.proofs.lemmas.Int.{ints}
-use Rattle.mc_pure_ops.proofs.CanonLemmas.Clean.{same_cast, fits_small}
 use Rattle.mc_pure_ops.proofs.CanonLemmas.Moving.{apart_to, apart_from, spans_to, spans_from, range_bounds, met_long}
 use Rattle.mc_pure_ops.proofs.canon.gaps.is_apart.Goals as goal
+use Rattle.mc_pure.proofs.Clean.{fits_small, same_cast}
 
 pub returns-clause-yes : goal.returns-clause-yes
 returns-clause-yes c =

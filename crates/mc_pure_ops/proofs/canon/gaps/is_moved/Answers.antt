@@ -2,8 +2,8 @@ use Rattle.std.proofs.Common.{◌≡◌, ℤ, pos, ◌+ℤ◌, ◌-ℤ◌, arith
 use Rattle.std.proofs.lemmas.Int.{ints}
 use Rattle.mc_pure_ops.specs.Canon.Gaps.{MovedPlaces}
 use Rattle.mc_pure_ops.proofs.CanonLemmas.Lists.{same_node}
-use Rattle.mc_pure_ops.proofs.CanonLemmas.Clean.{same_cast, fits_small}
 use Rattle.mc_pure_ops.proofs.canon.gaps.is_moved.Goals as goal
+use Rattle.mc_pure.proofs.Clean.{fits_small, same_cast}
 
 plain : (by fo lo so ro m o : ℤ) → m ≡ fo -ℤ lo → o ≡ so -ℤ ro → o ≡ by +ℤ m → by +ℤ (fo -ℤ lo) ≡ (so -ℤ ro) +ℤ pos 0
 plain by fo lo so ro m o p q r = omega (arith, ints)

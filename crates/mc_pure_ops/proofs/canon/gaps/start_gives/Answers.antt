@@ -1,13 +1,13 @@
 use Rattle.std.proofs.Common.{◌≡◌, refl, arith}
 use Rattle.std.proofs.lemmas.Int.{ints}
 use Rattle.mc_base.specs.declared.ids.NodeId.{NodeId}
-use Rattle.mc_pure_ops.proofs.CanonLemmas.Clean.{same_cast, fits_small}
 use Rattle.mc_pure_ops.proofs.CanonLemmas.Lists.{number}
 use Rattle.mc_pure_ops.proofs.CanonLemmas.Nodes.{whole_place}
 use Rattle.mc_pure_ops.proofs.CanonLemmas.Taken.{node_at}
 use Rattle.mc_pure_ops.proofs.CanonLemmas.Moving.{start_class, start_yes, start_other, start_itself, start_no}
 use Rattle.mc_pure_ops.proofs.canon.gaps.start_gives.Goals as goal
 use Rattle.mc_pure_ops.proofs.canon.gaps.start_gives.Goals.{else-i-j-via-then-i-j+else-is_moved, else-i-j-via-else-i-j}
+use Rattle.mc_pure.proofs.Clean.{fits_small, same_cast}
 
 pub class_of-first-requires-clause-there : goal.class_of-first-requires-clause-there
 class_of-first-requires-clause-there c = node_at c.args.pure.now c.args.starts.now c.args.i _ c.requires.starts c.requires.inside

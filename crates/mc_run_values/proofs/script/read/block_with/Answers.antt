@@ -4,8 +4,8 @@ use Rattle.serde_json.specs.View.{view}
 use Rattle.mc_lines.specs.Cert.Entries.{Fits, IsSigned, count_data, list_data, signed_data, values_data, word_data}
 use Rattle.mc_run_values.specs.Script.Lines.{BlockFits, block_data}
 use Rattle.mc_run_values.proofs.ScriptLemmas.Forms.{block_entries, block_parts}
-use Rattle.mc_run_values.proofs.ScriptLemmas.Parts.{fault_of_part}
 use Rattle.mc_run_values.proofs.script.read.block_with.Goals as goal
+use Rattle.mc_lines.proofs.CertLemmas.Faults.{fault_of_part}
 
 pub returns-in_err-address : goal.returns-in_err-address
 returns-in_err-address c =

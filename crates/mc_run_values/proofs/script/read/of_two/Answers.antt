@@ -5,8 +5,8 @@ use Rattle.mc_lines.specs.Cert.Entries.{IsSigned, list_data, signed_data}
 use Rattle.mc_run_values.specs.declared.script.line.NamedBlock.{NamedBlock}
 use Rattle.mc_run_values.specs.Script.Lines.{BlockFits, LineFits, block_data, line_data}
 use Rattle.mc_run_values.proofs.ScriptLemmas.Forms.{line_form}
-use Rattle.mc_run_values.proofs.ScriptLemmas.Parts.{fault_of_form}
 use Rattle.mc_run_values.proofs.script.read.of_two.Goals as goal
+use Rattle.mc_lines.proofs.CertLemmas.Faults.{fault_of_form}
 
 pub returns-in_err-value-in-shape : goal.returns-in_err-value-in-shape
 returns-in_err-value-in-shape c =

@@ -1,7 +1,8 @@
 use Rattle.std.proofs.Common.{Some, sym, ap, subst, ◌∙◌}
 use Rattle.mc_state.specs.Graph.Graph.{Graph, Edges, IdsAscend}
-use Rattle.mc_symbolic.proofs.EdgesLemmas.Places.{absent_replaced, found_replaced, ids_replaced}
+use Rattle.mc_symbolic.proofs.EdgesLemmas.Places.{absent_replaced, found_replaced}
 use Rattle.mc_symbolic.proofs.edges.graph.Graph.put.Goals as goal
+use Rattle.mc_state.proofs.Ids.{ids_replaced}
 
 pub invariant_of-self : goal.invariant_of-self
 invariant_of-self c =

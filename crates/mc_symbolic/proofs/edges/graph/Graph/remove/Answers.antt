@@ -1,7 +1,8 @@
 use Rattle.std.proofs.Common.{Some, sym, ap, ◌∙◌, refl}
 use Rattle.mc_state.specs.Graph.Graph.{Graph, Edges}
-use Rattle.mc_symbolic.proofs.EdgesLemmas.Places.{Entry, absent_edge, absent_without, found_edge, found_without, ids_without}
+use Rattle.mc_symbolic.proofs.EdgesLemmas.Places.{Entry, absent_edge, absent_without, found_edge, found_without}
 use Rattle.mc_symbolic.proofs.edges.graph.Graph.remove.Goals as goal
+use Rattle.mc_state.proofs.Ids.{ids_without}
 
 pub invariant_of-self : goal.invariant_of-self
 invariant_of-self c =

@@ -2,8 +2,9 @@ use Rattle.std.proofs.Common.{Some, sym, ap, subst, ◌∙◌}
 use Rattle.mc_state.specs.declared.graph.edge.Edge.{Edge}
 use Rattle.mc_state.specs.Graph.Edges.{with_field_node}
 use Rattle.mc_state.specs.Graph.Graph.{Graph, Edges, IdsAscend, replaced}
-use Rattle.mc_symbolic.proofs.EdgesLemmas.Places.{absent_edge, none_there, one_edge, set_found, ids_replaced}
+use Rattle.mc_symbolic.proofs.EdgesLemmas.Places.{absent_edge, none_there, one_edge, set_found}
 use Rattle.mc_symbolic.proofs.edges.graph.Graph.set_field.Goals as goal
+use Rattle.mc_state.proofs.Ids.{ids_replaced}
 
 pub invariant_of-self : goal.invariant_of-self
 invariant_of-self c =

@@ -1,6 +1,0 @@
-use Rattle.mc_apply_fold.proofs.fold.rules.FoldIndLogicRule.is_sound.Goals as goal
-
-pub returns : goal.returns
-returns c = λ know left defs access s next made tells lists gives.
-    let r = c.args.self.now in
-    (c.folding_is_sound.ensures.ind defs r.pred r.rule r.names r.block r.edges s next made.made.bounded ((c.folding_is_judged.ensures.ind know defs r.pred r.rule r.names r.block r.edges s made.made.bounded tells next).0 gives)).0

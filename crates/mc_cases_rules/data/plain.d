@@ -1,0 +1,7 @@
+def list(this) {
+  rule { }
+}
+
+def sorted(this, int from, int to) {
+  rule { }
+}

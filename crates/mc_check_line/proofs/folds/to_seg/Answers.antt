@@ -1,4 +1,0 @@
-use Rattle.mc_check_line.proofs.folds.to_seg.Goals as goal
-
-pub returns : goal.returns
-returns c = λ know tells. c.folded_to.ensures _ (c.fold_seg-given.ensures know tells)

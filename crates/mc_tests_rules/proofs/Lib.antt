@@ -1,2 +1,0 @@
-pub mod RulesTriedLemmas
-pub mod StepsTriedLemmas
