@@ -6,10 +6,12 @@ use mc_c_check::{Bound, Typed, bind};
 use mc_c_syntax::lex::MAX_BYTES;
 use mc_cases::Case;
 use mc_def_read::read_defs;
+use mc_flow::Defs;
 use mc_load::read::read;
 use mc_resolve::resolve;
 use mc_run::{Outcome, Program, run};
 use mc_run_values::script::{NamedStructs, Script, struct_texts};
+use mc_semantics::resolved::Resolved;
 use std::alloc::Global;
 
 // The program of a text.
@@ -54,10 +56,22 @@ fn outcome_of(alloc: Global, bound: &Bound, script: &[u8], fuel: u64) -> Result<
     let infos = bound.typed().structs().list.as_slice();
     let texts = struct_texts(alloc, infos)?;
     let structs = NamedStructs::of(alloc, infos, texts.as_slice())?;
+    run_with(alloc, &resolved, bound.defs(), &structs, script, fuel)
+}
+
+// What a resolved program comes to.
+fn run_with(
+    alloc: Global,
+    resolved: &Resolved,
+    defs: &Defs,
+    structs: &NamedStructs<'_>,
+    script: &[u8],
+    fuel: u64,
+) -> Result<Outcome, NoMemory> {
     let program = Program {
-        resolved: &resolved,
-        defs: bound.defs(),
-        structs: &structs,
+        resolved,
+        defs,
+        structs,
     };
     run(alloc, program, &mut Script::of(script), fuel)
 }
