@@ -17,11 +17,10 @@ use Rattle.mc_c_types.specs.declared.faults.Fault.{Fault}
 use Rattle.mc_c_check.specs.declared.graph.Edge.{Edge}
 use Rattle.mc_c_check.specs.Graphs.{edge_of, fault_at, Leads}
 use Rattle.mc_c_check.specs.Told.{IsBehind, IsFirstBroken, IsToldOfRules, IsToldWith}
-use Rattle.mc_c_check.proofs.Members.{contains_cases, contains_front, contains_back, contains_either, get_same}
-use Rattle.mc_c_check.proofs.Orders.{is_told-refl, is_told-total, is_told-trans, least_of}
+use Rattle.mc_c_check.proofs.Members.{contains_front, contains_back, contains_either, get_same}
 use Rattle.mc_c_check.proofs.Repeats.{any_mapped, tree_of}
 use Rattle.mc_c_check.proofs.Recursions.{callers_known, loop_recursion, recursion_loop}
-use Rattle.mc_c_types.proofs.Orders.{contains_here, contains_later, contains_none}
+use Rattle.mc_c_types.proofs.Orders.{contains_here, contains_cases, contains_none, is_told-refl, is_told-total, is_told-trans, told_of-among, told_of-before, told_of-some}
 
 -- ---- what is known of plain faults
 pub record Plain (faults : List Fault) (told : Option Fault) : Type 0 where
@@ -31,15 +30,9 @@ pub record Plain (faults : List Fault) (told : Option Fault) : Type 0 where
 pub plain_told : (faults : List Fault) → Plain faults (told_of None faults)
 plain_told [] = record { among = λ f e. absurd (none-some f e); behind = λ f h. absurd (contains_none f h) }
 plain_told (x ∷ xs) =
-    let all = least_of x xs in
-    rw all.is_told
-    record {
-      among = λ f e. elim all.least.is_one [
-        | inl p ↦ rw (sym (same_Some all.fault f e)) (rw p (contains_here x xs))
-        | inr p ↦ rw (sym (same_Some all.fault f e)) (contains_later all.fault x xs p)
-      ];
-      behind = λ f h. elim (contains_cases f x xs h) [ inl p ↦ rw p all.least.before_it | inr p ↦ all.least.before_all f p ];
-    }
+    let known = told_of-some x xs in
+    rw known.1
+    record { among = λ f e. told_of-among (x ∷ xs) f (known.1 ∙ e); behind = λ f h. told_of-before (x ∷ xs) known.0 f known.1 h }
 
 -- ---- the calls, one after another
 pub told_first : (edges : List Edge) (before : Option Fault) → IsToldWith edges [] before before

@@ -6,9 +6,9 @@ use Rattle.std.proofs.lemmas.Bool.{cases_eq}
 use Rattle.std.specs.Prelude.{Contains, IsTrue}
 use Rattle.mc_c_check.specs.declared.graph.Edge.{Edge}
 use Rattle.mc_c_check.specs.Graphs.{along, here, is_marked, IsClosed, Keeps, Leads, LeadsToMarked, NeverRise, unmarked}
-use Rattle.mc_c_check.proofs.Members.{contains_cases, contains_either}
+use Rattle.mc_c_check.proofs.Members.{contains_either}
 use Rattle.mc_c_check.proofs.Rows.{drop_at}
-use Rattle.mc_c_types.proofs.Orders.{contains_none}
+use Rattle.mc_c_types.proofs.Orders.{contains_cases, contains_none}
 
 -- one call more at the end
 pub leads_on : (edges : List Edge) (edge : Edge) → Contains edges edge → {a b : ℕ} → Leads edges a b → b ≡ edge.caller → Leads edges a edge.callee

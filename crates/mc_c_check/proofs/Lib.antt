@@ -4,7 +4,6 @@ pub mod Repeats
 pub mod Members
 pub mod Graphs
 pub mod Recursions
-pub mod Orders
 pub mod Ranking
 pub mod Walks
 pub mod Commands

@@ -1,11 +1,7 @@
 -- Members of lists.
 use Rattle.std.proofs.Common.{◌≡◌, ℕ, List, [], ◌∷◌, ◌++◌, ◌<◌, ◌⊎◌, refl, sym, arith, inl, inr, suc, zero, map, length, get_or}
 use Rattle.std.specs.Prelude.{Contains}
-use Rattle.mc_c_types.proofs.Orders.{contains_here, contains_later, contains_none}
-
-pub contains_cases : {X : Type 0} (x y : X) (xs : List X) → Contains (y ∷ xs) x → (x ≡ y) ⊎ Contains xs x
-contains_cases x y xs (zero, below, is) = inl (sym is)
-contains_cases x y xs (suc k, below, is) = inr (k, omega arith, is)
+use Rattle.mc_c_types.proofs.Orders.{contains_here, contains_later, contains_cases, contains_none}
 
 pub contains_front : {X : Type 0} (x : X) (xs ys : List X) → Contains xs x → Contains (xs ++ ys) x
 contains_front x [] ys h = absurd (contains_none x h)

@@ -7,8 +7,7 @@ use Rattle.mc_c_syntax.specs.Ast.Trees.{UnitTree}
 use Rattle.mc_c_types.specs.Calls.{CallSite, Reaches, itself, through, call_sites}
 use Rattle.mc_c_types.specs.Typing.{IsWellTyped, recursion_at}
 use Rattle.mc_c_check.specs.Ranks.{AreRanks, HasRanks}
-use Rattle.mc_c_check.proofs.Members.{contains_cases}
-use Rattle.mc_c_types.proofs.Orders.{contains_here, contains_later, contains_none}
+use Rattle.mc_c_types.proofs.Orders.{contains_here, contains_later, contains_cases, contains_none}
 
 -- ---- whether a function is reached
 abbrev Decides : List CallSite → List ℕ → List ℕ → Type 0

@@ -9,8 +9,8 @@ use Rattle.mc_c_types.specs.Tables.{item_functions}
 use Rattle.mc_c_types.specs.Typing.{IsRecursion}
 use Rattle.mc_c_types.specs.declared.faults.Fault.{Fault}
 use Rattle.mc_c_check.specs.Graphs.{number_in, edge_of, IsWithin, Leads, here, along, IsLoop}
-use Rattle.mc_c_check.proofs.Members.{contains_cases, contains_front, contains_back, contains_either, contains_mapped, contains_origin}
-use Rattle.mc_c_types.proofs.Orders.{contains_here, contains_none}
+use Rattle.mc_c_check.proofs.Members.{contains_front, contains_back, contains_either, contains_mapped, contains_origin}
+use Rattle.mc_c_types.proofs.Orders.{contains_here, contains_cases, contains_none}
 
 -- ---- numbers
 -- a name of one function has a number

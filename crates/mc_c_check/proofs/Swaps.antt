@@ -3,7 +3,7 @@ use Rattle.std.proofs.Common.{◌≡◌, List, [], ◌∷◌, refl, ap, sym, ◌
 use Rattle.std.specs.Prelude.{Option, Some, None}
 use Rattle.mc_c_types.specs.First.{is_told, told_of}
 use Rattle.mc_c_types.specs.declared.faults.Fault.{Fault}
-use Rattle.mc_c_check.proofs.Orders.{is_told-antisym, is_told-total, is_told-trans}
+use Rattle.mc_c_types.proofs.Orders.{is_told-antisym, is_told-total, is_told-trans}
 use Rattle.mc_c_check.proofs.Rows.{told_append}
 
 -- the first of two
