@@ -1,5 +1,5 @@
 -- What is written when a node is forgotten.
-use Rattle.std.proofs.Common.{◌≡◌, ◌≢◌, ◌↔◌, ℕ, ◌⊎◌, ◌<◌, ℤ, pos, ◌+ℤ◌, ◌-ℤ◌, neg_ℤ, ◌<ℤ◌, List, [], ◌∷◌, ◌++◌, Option, Some, None, slice_get, Bool, true, false, append_assoc, refl, sym, ◌∙◌, ap, subst, inl, inr, arith}
+use Rattle.std.proofs.Common.{◌≡◌, ◌≢◌, ◌↔◌, ℕ, ◌⊎◌, ◌<◌, ℤ, pos, ◌+ℤ◌, ◌-ℤ◌, neg_ℤ, ◌<ℤ◌, List, [], ◌++◌, Option, Some, None, slice_get, Bool, true, false, append_assoc, refl, sym, ◌∙◌, ap, subst, inl, inr, arith}
 use Rattle.std.proofs.lemmas.Int.{ints}
 use Rattle.mc_base.specs.declared.ids.NodeId.{NodeId}
 use Rattle.mc_base.specs.declared.plain.Kind.{Kind}
@@ -8,11 +8,11 @@ use Rattle.mc_base.specs.declared.plain.Atom.TheVariants.{Eq, Ne, In}
 use Rattle.mc_base.specs.Nodes.{null}
 use Rattle.mc_pure.specs.declared.rows.Row.{Row}
 use Rattle.mc_pure.specs.Pure as begin
-use Rattle.mc_pure.specs.Pure.{Pure, IsNode, Base, kind_of, kind_atom, low_of, high_of, written, kind, block, apart}
+use Rattle.mc_pure.specs.Pure.{Pure, IsNode, Base, kind_of, kind_atom, written, kind, block, apart}
 use Rattle.mc_pure.specs.Derived as derive
 use Rattle.mc_pure.specs.Derived.{Follows, IsFalse, HasRange, base, turned, chained, widened, differs, disjoint, empty, more}
 use Rattle.mc_pure.specs.Normal.{low, high, Apart, IsNormal}
-use Rattle.mc_pure.specs.Rows.{IsTie, Over}
+use Rattle.mc_pure.specs.Rows.{IsTie}
 use Rattle.mc_pure.specs.Classes.{HasNormalForm, NormalSaysAll}
 use Rattle.mc_pure.specs.Laws.{FollowsFromMore}
 use Rattle.mc_pure.specs.Canonical.{IsLeast, IsRangeAtom, IsClassAtom, IsDifference, IsListOf, ComesBefore, AreListed, plainly}
@@ -22,13 +22,14 @@ use Rattle.mc_pure_ops.specs.Canon.Order.{Among, IsBefore, Added}
 use Rattle.mc_pure_ops.specs.Canon.Left.{IsLeft, IsLeastLeft, IsPlace, IsLeftOut, LeavesOut, IsRangeLeft, IsClassLeft}
 use Rattle.mc_pure_ops.specs.Canon.Gaps.{ArePair, IsPlain, IsTurned, gap_atom, turned_gap, DifferenceLeft}
 use Rattle.mc_pure_ops.specs.Canon.Forgotten.{without_node, IsForgotten}
-use Rattle.mc_pure.specs.Whole.{kinds_without, IsInside, IsWholeList}
-use Rattle.mc_pure_ops.proofs.CanonLemmas.Lists.{same_node, added_as}
-use Rattle.mc_pure_ops.proofs.CanonLemmas.Nodes.{decide, ne_as, place_of_kind, place_kept, place_heir}
+use Rattle.mc_pure.specs.Whole.{kinds_without, IsInside}
+use Rattle.mc_pure_ops.proofs.CanonLemmas.Lists.{added_as}
+use Rattle.mc_pure.proofs.Changing.{same_node, decide}
+use Rattle.mc_pure.proofs.Placing.{place_of_kind}
+use Rattle.mc_pure_ops.proofs.CanonLemmas.Nodes.{ne_as, place_kept, place_heir}
 use Rattle.mc_pure_ops.proofs.CanonLemmas.Others as others
-use Rattle.mc_pure_ops.proofs.CanonLemmas.Others.{kind_without, lost_without, node_without, place_without, over_all}
-use Rattle.mc_pure_ops.proofs.CanonLemmas.Moving.{apart_to}
-use Rattle.mc_pure_ops.proofs.CanonLemmas.Plain.{range_of, plain, IsPlainly}
+use Rattle.mc_pure_ops.proofs.CanonLemmas.Others.{kind_without, node_without, place_without, over_all}
+use Rattle.mc_pure_ops.proofs.CanonLemmas.Plain.{range_of, plain}
 use Rattle.mc_pure_ops.proofs.CanonLemmas.Exact.{IsDifferenceLeft, difference_true, difference_made}
 use Rattle.mc_pure_ops.proofs.CanonLemmas.Within.{moved_ne, range_in, class_in, plain_in}
 use Rattle.mc_pure_ops.proofs.CanonLemmas.Listing.{gained, listed, left_in, right_in, either_in, range_step, class_step, difference_step}

@@ -12,8 +12,9 @@ use Rattle.mc_pure.specs.Classes.{HasNormalForm, NormalSaysAll}
 use Rattle.mc_pure.specs.declared.classes.ClassPlace.{ClassPlace}
 use Rattle.mc_pure_ops.specs.Canon.Left.{IsLeftOut, IsHeir}
 use Rattle.mc_pure_ops.specs.Canon.Forgotten.{IsHeirBelow, IsNextHeir}
-use Rattle.mc_pure_ops.proofs.CanonLemmas.Lists.{number}
-use Rattle.mc_pure_ops.proofs.CanonLemmas.Nodes.{node_listed, least_once, least_whole}
+use Rattle.mc_pure.proofs.Changing.{number}
+use Rattle.mc_pure.proofs.Placing.{node_place}
+use Rattle.mc_pure_ops.proofs.CanonLemmas.Nodes.{least_once, least_whole}
 use Rattle.mc_pure_ops.proofs.JoinLemmas.Follow.{eq_as}
 
 split : (k n : ℕ) → k < suc n → (k < n) ⊎ (k ≡ n)
@@ -109,7 +110,7 @@ is_left_out law p form lost out nodes i heir s e le there nz h =
   where
     place : (m : NodeId) (c : ℤ) → Follows p (Eq m lost c) → (k : ℕ) × (k < i) × (slice_get nodes k ≡ Some m)
     place m c d =
-        let w = node_listed p.kinds m (law p form.nf form.normal (Eq m lost c) d).0 in
+        let w = node_place p.kinds m (law p form.nf form.normal (Eq m lost c) d).0 in
         let f : slice_get nodes w.0 ≡ Some m = subst (λ (z : List NodeId). slice_get z w.0 ≡ Some m) (sym e) w.1 in
         let l = slice_get_within nodes w.0 m f in
         (w.0, omega arith, f)

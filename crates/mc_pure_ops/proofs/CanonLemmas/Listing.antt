@@ -1,5 +1,5 @@
 -- Lists that gained exactly some atoms list them.
-use Rattle.std.proofs.Common.{◌≡◌, ◌≢◌, ℕ, zero, suc, ◌⊎◌, ◌<◌, ℤ, pos, ◌<ℤ◌, List, [], ◌∷◌, ◌++◌, Option, Some, None, slice_get, refl, sym, ◌∙◌, ap, subst, inl, inr, arith}
+use Rattle.std.proofs.Common.{◌≡◌, ℕ, zero, suc, ◌⊎◌, ◌<◌, ℤ, pos, ◌<ℤ◌, List, [], ◌∷◌, ◌++◌, Some, None, slice_get, refl, ◌∙◌, ap, subst, inl, inr, arith}
 use Rattle.std.specs.Prelude.{Contains}
 use Rattle.std.proofs.lemmas.Int.{ints}
 use Rattle.std.proofs.lemmas.Option.{slice_get_within, slice_get-get_or, get_or_from_slice_get}
@@ -7,10 +7,10 @@ use Rattle.mc_base.specs.declared.ids.NodeId.{NodeId}
 use Rattle.mc_base.specs.declared.plain.Atom.{Atom}
 use Rattle.mc_base.specs.declared.plain.Atom.TheVariants.{Eq, Ne, In}
 use Rattle.mc_pure.specs.Pure.{Pure}
-use Rattle.mc_pure.specs.Derived.{Follows, IsFalse, HasRange, turned, chained}
+use Rattle.mc_pure.specs.Derived.{IsFalse, HasRange, turned, chained}
 use Rattle.mc_pure.specs.Canonical.{IsRangeAtom, IsClassAtom, ComesBefore, AreInOrder, AreListed}
 use Rattle.mc_pure_ops.specs.Canon.Order.{Among, IsBefore, AreSorted, Added}
-use Rattle.mc_pure_ops.proofs.CanonLemmas.Lists.{same_node}
+use Rattle.mc_pure.proofs.Changing.{same_node}
 use Rattle.mc_pure_ops.proofs.CanonLemmas.Nodes.{offset_once, least_once, least_whole}
 use Rattle.mc_pure_ops.proofs.JoinLemmas.Follow.{eq_as, range_once}
 

@@ -1,17 +1,11 @@
 -- Insertion into a list that is in order, and what lists gain.
-use Rattle.std.proofs.Common.{◌≡◌, ℕ, zero, suc, pos, ◌⊎◌, ◌≤◌, ◌<◌, ◌+◌, List, [], ◌∷◌, ◌++◌, Option, Some, None, Result, Ok, Err, IfOk, slice_get, get_or, length, take, drop, refl, sym, ◌∙◌, ap, subst, inl, inr, arith}
+use Rattle.std.proofs.Common.{◌≡◌, ℕ, zero, suc, ◌⊎◌, ◌≤◌, ◌<◌, ◌+◌, List, [], ◌∷◌, ◌++◌, Option, Some, None, Result, Ok, Err, IfOk, slice_get, get_or, length, take, drop, refl, sym, ◌∙◌, ap, subst, inl, inr, arith}
 use Rattle.std.proofs.lemmas.Int.{ints}
 use Rattle.std.proofs.lemmas.Option.{slice_get_within, slice_get-get_or}
-use Rattle.mc_base.specs.declared.ids.NodeId.{NodeId}
 use Rattle.mc_base.specs.declared.plain.Atom.{Atom}
 use Rattle.mc_base.specs.declared.plain.Atom.TheVariants.{Eq, Ne, In}
+use Rattle.mc_pure.proofs.Changing.{same_node}
 use Rattle.mc_pure_ops.specs.Canon.Order.{Among, key, IsBefore, AreSorted, FitsAfter, FitsBefore, Added, IsSomeOf, GivesAtMost}
-
-pub same_node : (a b : NodeId) → a.0 ≡ b.0 → a ≡ b
-same_node a b e = ap (λ (n : ℕ). let x : NodeId = record { 0 = n } in x) e
-
-pub number : {a b : NodeId} → a ≡ b → a.0 ≡ b.0
-number e = ap (λ (n : NodeId). n.0) e
 
 -- keys that are the same are of one atom
 pub key_same : (f g : Atom) → (key f).rank ≡ (key g).rank → (key f).node ≡ (key g).node → (key f).second ≡ (key g).second → (key f).third ≡ (key g).third → f ≡ g

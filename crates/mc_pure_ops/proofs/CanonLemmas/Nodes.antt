@@ -1,8 +1,7 @@
 -- Nodes in lists, and the facts of equalities and ranges that need no normal form.
-use Rattle.std.proofs.Common.{◌≡◌, ◌≢◌, ℕ, zero, suc, ◌⊎◌, ◌≤◌, ℤ, pos, negsuc, ◌+ℤ◌, ◌-ℤ◌, neg_ℤ, ◌≤ℤ◌, ◌<ℤ◌, [], ◌∷◌, Option, Some, None, slice_get, map, nat_eq, true, false, refl, sym, ◌∙◌, ap, subst, inl, inr, arith}
+use Rattle.std.proofs.Common.{◌≡◌, ◌≢◌, ℕ, zero, suc, ◌⊎◌, ◌≤◌, ℤ, pos, negsuc, ◌+ℤ◌, ◌-ℤ◌, neg_ℤ, ◌≤ℤ◌, ◌<ℤ◌, [], ◌∷◌, Option, Some, None, slice_get, map, refl, sym, ◌∙◌, ap, subst, inl, inr, arith}
 use Rattle.std.proofs.lemmas.Int.{ints, clamps}
 use Rattle.std.specs.Int.{int_max, int_min}
-use Rattle.std.proofs.lemmas.Bool.Decides.{nat_tests}
 use Rattle.mc_base.specs.declared.ids.NodeId.{NodeId}
 use Rattle.mc_base.specs.declared.plain.Kind.{Kind}
 use Rattle.mc_base.specs.declared.plain.Kind.TheVariants.{Int, Ptr}
@@ -16,52 +15,12 @@ use Rattle.mc_pure.specs.Canonical.{IsLeast}
 use Rattle.mc_pure.specs.Classes.{IsLong}
 use Rattle.mc_pure.specs.declared.classes.ClassPlace.{ClassPlace}
 use Rattle.mc_pure_ops.specs.Canon.Left.{IsLeft, IsLeastLeft, IsPlace, IsLeftOut, FindsPlace}
-use Rattle.mc_pure_ops.proofs.CanonLemmas.Lists.{same_node, number}
+use Rattle.mc_pure.proofs.Changing.{same_node, decide}
+use Rattle.mc_pure.proofs.Placing.{Entry, here_kind, later_kind, place_of_kind}
 use Rattle.mc_pure_ops.proofs.JoinLemmas.Follow.{eq_as}
-
-yes : (m n : ℕ) → m ≡ n → nat_eq m n ≡ true
-yes m n e = grind (arith, nat_tests)
-
-no_eq : (m n : ℕ) → (m ≡ n → ⊥) → nat_eq m n ≡ false
-no_eq m n e = grind (arith, nat_tests)
-
-pub same_true : (a b : NodeId) → a ≡ b → nat_eq a.0 b.0 ≡ true
-same_true a b e = yes a.0 b.0 (number e)
-
-pub same_false : (a b : NodeId) → a ≢ b → nat_eq a.0 b.0 ≡ false
-same_false a b ne = no_eq a.0 b.0 (λ e. ne (same_node a b e))
-
-pub decide : (a b : NodeId) → (a ≡ b) ⊎ (a ≢ b)
-decide a b = elim (numbers a.0 b.0) [ inl e ↦ inl (same_node a b e) | inr ne ↦ inr (λ e. ne (number e)) ]
-  where
-    numbers : (m n : ℕ) → (m ≡ n) ⊎ (m ≡ n → ⊥)
-    numbers m n = grind arith
-
-abbrev pub Entry : Type 0
-Entry = NodeId × Kind
-
-pub here_kind : (k : Entry) (kinds : Kinds) (n : NodeId) → k.0 ≡ n → kind_of (k ∷ kinds) n ≡ Some k.1
-here_kind k kinds n e = rw (same_true k.0 n e) refl
-
-pub later_kind : (k : Entry) (kinds : Kinds) (n : NodeId) → k.0 ≢ n → kind_of (k ∷ kinds) n ≡ kind_of kinds n
-later_kind k kinds n e = rw (same_false k.0 n e) refl
 
 pub some_entry : (x y : Entry) → Some x ≡ Some y → x ≡ y
 some_entry x y e = cc
-
--- the place of a node's kind
-pub place_of_kind : (kinds : Kinds) (n : NodeId) (kind : Kind) → kind_of kinds n ≡ Some kind → (i : ℕ) × (slice_get kinds i ≡ Some (n, kind))
-place_of_kind [] n kind e = cc
-place_of_kind (k ∷ kinds) n kind e = elim (decide k.0 n) [
-  | inl x ↦
-      let h : Some k.1 ≡ Some kind = sym (here_kind k kinds n x) ∙ e in
-      let same : k.1 ≡ kind = cc in
-      (zero, entry k.0 n k.1 kind x same)
-  | inr x ↦ (let h = place_of_kind kinds n kind (sym (later_kind k kinds n x) ∙ e) in (suc h.0, h.1))
-]
-  where
-    entry : (a b : NodeId) (c d : Kind) → a ≡ b → c ≡ d → (let x : Entry = (a, c) in let y : Entry = (b, d) in Some x ≡ Some y)
-    entry a b c d p q = rw (p, q)
 
 -- a node that has a place has a kind
 pub kind_there : (kinds : Kinds) (i : ℕ) (n : NodeId) → slice_get (map (λ k. k.0) kinds) i ≡ Some n → (kind : Kind) × (kind_of kinds n ≡ Some kind)
@@ -72,21 +31,10 @@ kind_there (k ∷ kinds) (suc i) n e = elim (decide k.0 n) [
   | inr s ↦ (let h = kind_there kinds i n e in (h.0, later_kind k kinds n s ∙ h.1))
 ]
 
-map_there : (kinds : Kinds) (i : ℕ) (n : NodeId) (kind : Kind) → slice_get kinds i ≡ Some (n, kind) → slice_get (map (λ k. k.0) kinds) i ≡ Some n
-map_there [] i n kind e = cc
-map_there (k ∷ kinds) zero n kind e = let s = some_entry k (n, kind) e in ap (λ (z : Entry). Some z.0) s
-map_there (k ∷ kinds) (suc i) n kind e = map_there kinds i n kind e
-
 -- the nodes of the list are the nodes
 pub node_there : (kinds : Kinds) (i : ℕ) (n : NodeId) → slice_get (nodes_of kinds) i ≡ Some n → IsNode kinds n
 node_there kinds zero n e = let s : null ≡ n = cc in (Int, inl (sym s))
 node_there kinds (suc i) n e = let h = kind_there kinds i n e in (h.0, inr h.1)
-
-pub node_listed : (kinds : Kinds) (n : NodeId) → IsNode kinds n → (i : ℕ) × (slice_get (nodes_of kinds) i ≡ Some n)
-node_listed kinds n h = elim h.1 [
-  | inl e ↦ (zero, ap (λ (z : NodeId). Some z) (sym e))
-  | inr e ↦ (let p = place_of_kind kinds n h.0 e in (suc p.0, map_there kinds p.0 n h.0 p.1))
-]
 
 pub not_below : (a b : ℤ) → (b <ℤ a → ⊥) → a ≤ℤ b
 not_below a b n = grind (arith, ints)

@@ -1,15 +1,16 @@
 -- The nodes beside one that is forgotten.
-use Rattle.std.proofs.Common.{◌≡◌, ◌≢◌, ℕ, zero, suc, ◌⊎◌, ℤ, pos, List, [], ◌∷◌, Option, Some, None, slice_get, refl, sym, ◌∙◌, ap, subst, inl, inr, arith}
+use Rattle.std.proofs.Common.{◌≡◌, ◌≢◌, ℕ, zero, suc, [], ◌∷◌, Some, None, slice_get, refl, sym, ◌∙◌, ap, subst, inl, inr}
 use Rattle.mc_base.specs.declared.ids.NodeId.{NodeId}
 use Rattle.mc_base.specs.declared.plain.Kind.{Kind}
 use Rattle.mc_base.specs.declared.plain.Atom.{Atom}
-use Rattle.mc_base.specs.declared.plain.Atom.TheVariants.{Eq, Ne, In}
 use Rattle.mc_base.specs.Nodes.{null}
 use Rattle.mc_pure.specs.Pure.{Pure, Kinds, IsNode, Base, kind_of}
 use Rattle.mc_pure.specs.Derived.{Follows, base, itself, turned, chained, shifted, met, widened, fixed, differs, differs_along, raised, lowered, disjoint}
 use Rattle.mc_pure.specs.Rows.{Over}
 use Rattle.mc_pure.specs.Whole.{kinds_without}
-use Rattle.mc_pure_ops.proofs.CanonLemmas.Nodes.{Entry, decide, same_true, same_false, here_kind, later_kind, some_entry}
+use Rattle.mc_pure_ops.proofs.CanonLemmas.Nodes.{some_entry}
+use Rattle.mc_pure.proofs.Changing.{decide, same_true, same_false}
+use Rattle.mc_pure.proofs.Placing.{Entry, here_kind, later_kind}
 
 drop_here : (k : Entry) (kinds : Kinds) (g : NodeId) → k.0 ≡ g → kinds_without (k ∷ kinds) g ≡ kinds_without kinds g
 drop_here k kinds g e = rw (same_true k.0 g e) refl

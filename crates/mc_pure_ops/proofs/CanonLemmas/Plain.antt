@@ -1,22 +1,21 @@
 -- What follows from ranges, equalities and starts of blocks alone.
-use Rattle.std.proofs.Common.{◌≡◌, ◌≢◌, ℕ, zero, suc, ◌⊎◌, ℤ, pos, ◌+ℤ◌, ◌-ℤ◌, neg_ℤ, List, [], ◌∷◌, Some, slice_get, refl, sym, ◌∙◌, ap, subst, inl, inr, arith}
+use Rattle.std.proofs.Common.{◌≡◌, ℕ, zero, suc, ◌⊎◌, ℤ, pos, ◌-ℤ◌, List, [], ◌∷◌, Some, slice_get, refl, sym, ◌∙◌, ap, subst, inl, inr, arith}
 use Rattle.std.proofs.lemmas.Int.{ints}
 use Rattle.mc_base.specs.declared.ids.NodeId.{NodeId}
 use Rattle.mc_base.specs.declared.plain.Atom.{Atom}
 use Rattle.mc_base.specs.declared.plain.Atom.TheVariants.{Eq, Ne, In}
-use Rattle.mc_base.specs.Nodes.{null}
 use Rattle.mc_pure.specs.declared.rows.Row.{Row}
 use Rattle.mc_pure.specs.Pure as begin
 use Rattle.mc_pure.specs.Pure.{Pure, IsNode, Base, written, kind, block, apart}
-use Rattle.mc_pure.specs.Derived.{Follows, IsFalse, HasRange, base, turned, chained, widened}
-use Rattle.mc_pure.specs.Normal.{low, high, Listed, Holds, IsNormal}
+use Rattle.mc_pure.specs.Derived.{Follows, HasRange, base, turned, chained, widened}
+use Rattle.mc_pure.specs.Normal.{low, high, IsNormal}
 use Rattle.mc_pure.specs.Rows.{nodes_of, IsTie}
 use Rattle.mc_pure.specs.Classes.{NormalSaysAll}
 use Rattle.mc_pure.specs.Laws.{FollowsFromMore}
-use Rattle.mc_pure_ops.specs.declared.canon.gaps.Gap.{Gap}
 use Rattle.mc_pure_ops.specs.Canon.Order.{Among}
-use Rattle.mc_pure_ops.specs.Canon.Gaps.{ArePair, IsMoved, StartsGive, IsPlain}
-use Rattle.mc_pure_ops.proofs.CanonLemmas.Nodes.{node_there, node_listed}
+use Rattle.mc_pure_ops.specs.Canon.Gaps.{ArePair, IsPlain}
+use Rattle.mc_pure_ops.proofs.CanonLemmas.Nodes.{node_there}
+use Rattle.mc_pure.proofs.Placing.{node_place}
 use Rattle.mc_pure_ops.proofs.CanonLemmas.Moving.{apart_to}
 use Rattle.mc_pure_ops.proofs.JoinLemmas.Follow.{eq_as}
 
@@ -97,10 +96,10 @@ module _ (law : NormalSaysAll) (p : Pure) (nf : NodeId → Row) (n : IsNormal p 
         subst (λ (z : ℤ). Base p (Ne x y z)) (sym k.3) (apart k.0 k.1 k.2.differ (fewer k.0 x k.2.first) (fewer k.1 y k.2.second))
 
     own_range : (a : NodeId) → IsNode p.kinds a → Follows q (In a (low (nf a)) (high (nf a)))
-    own_range a na = let l = node_listed p.kinds a na in let k = range_tie nf (nodes_of p.kinds) l.0 a l.1 in base (written k.0 k.1)
+    own_range a na = let l = node_place p.kinds a na in let k = range_tie nf (nodes_of p.kinds) l.0 a l.1 in base (written k.0 k.1)
 
     own_class : (a : NodeId) → IsNode p.kinds a → Follows q (Eq a (nf a).rep (nf a).off)
-    own_class a na = let l = node_listed p.kinds a na in let k = class_tie nf (nodes_of p.kinds) l.0 a l.1 in base (written k.0 k.1)
+    own_class a na = let l = node_place p.kinds a na in let k = class_tie nf (nodes_of p.kinds) l.0 a l.1 in base (written k.0 k.1)
 
     q_normal : IsNormal q nf
     q_normal = record {

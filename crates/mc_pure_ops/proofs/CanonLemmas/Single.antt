@@ -1,6 +1,5 @@
 -- What is written of one node.
-use Rattle.std.proofs.Common.{◌≡◌, ◌≢◌, ℕ, ◌⊎◌, ◌≤◌, ℤ, ◌<ℤ◌, List, [], Option, Some, None, slice_get, length, refl, sym, ◌∙◌, ap, subst, inl, inr, arith}
-use Rattle.std.proofs.lemmas.Int.{ints}
+use Rattle.std.proofs.Common.{◌≡◌, ◌≢◌, ℕ, ◌⊎◌, ◌≤◌, ℤ, ◌<ℤ◌, List, [], Option, Some, None, slice_get, length, refl, sym, ◌∙◌, ap, subst, inr}
 use Rattle.mc_base.specs.declared.ids.NodeId.{NodeId}
 use Rattle.mc_base.specs.declared.plain.Kind.{Kind}
 use Rattle.mc_base.specs.declared.plain.Atom.{Atom}
@@ -13,8 +12,9 @@ use Rattle.mc_pure.specs.declared.classes.ClassPlace.{ClassPlace}
 use Rattle.mc_pure_ops.specs.Canon.Order.{Added, GivesAtMost}
 use Rattle.mc_pure_ops.specs.Canon.Left.{IsLeft, IsPlace, FindsPlace, IsRangeLeft, IsClassLeft, OfNode, OfNodes}
 use Rattle.mc_pure_ops.proofs.CanonLemmas.Lists.{added_as, Upto, upto_all}
-use Rattle.mc_pure_ops.proofs.CanonLemmas.Nodes.{node_listed, place_once}
-use Rattle.mc_pure_ops.proofs.JoinLemmas.Follow.{eq_as, range_once}
+use Rattle.mc_pure_ops.proofs.CanonLemmas.Nodes.{place_once}
+use Rattle.mc_pure.proofs.Placing.{node_place}
+use Rattle.mc_pure_ops.proofs.JoinLemmas.Follow.{range_once}
 
 in_same : (a : NodeId) (l m h k : ℤ) → l ≡ m → h ≡ k → In a l h ≡ In a m k
 in_same a l m h k p q = cc
@@ -108,7 +108,7 @@ module _ (p : Pure) (lost : Option NodeId) (n : NodeId) where
 
 module _ (p : Pure) (lost : Option NodeId) (nodes : List NodeId) (e : nodes ≡ nodes_of p.kinds) (i : ℕ) (list : List Atom) (l : length nodes ≤ i) where
   listed_node : (a : NodeId) → IsNode p.kinds a → (k : ℕ) × (slice_get nodes k ≡ Some a)
-  listed_node a h = subst (λ (z : List NodeId). (k : ℕ) × (slice_get z k ≡ Some a)) (sym e) (node_listed p.kinds a h)
+  listed_node a h = subst (λ (z : List NodeId). (k : ℕ) × (slice_get z k ≡ Some a)) (sym e) (node_place p.kinds a h)
 
   range_node : (f : Atom) → IsRangeLeft p lost f → OfNodes (IsRangeLeft p lost) nodes f
   range_node (In a lo hi) k = (a, listed_node a (k.0.0, inr k.0.2), (k, refl))

@@ -1,27 +1,25 @@
 -- The canonical list.
-use Rattle.std.proofs.Common.{◌≡◌, ◌≢◌, ◌↔◌, ℕ, ◌⊎◌, ℤ, pos, List, [], ◌∷◌, ◌++◌, Option, Some, None, slice_get, Bool, true, false, IsTrue, append_assoc, refl, sym, ◌∙◌, ap, subst, inl, inr, arith}
-use Rattle.std.proofs.lemmas.Int.{ints}
+use Rattle.std.proofs.Common.{◌≡◌, ◌↔◌, ℕ, ◌⊎◌, pos, List, [], ◌++◌, Option, Some, None, slice_get, Bool, true, false, IsTrue, append_assoc, refl, sym, ◌∙◌, ap, subst, inl, inr}
 use Rattle.mc_base.specs.declared.ids.NodeId.{NodeId}
 use Rattle.mc_base.specs.declared.plain.Kind.{Kind}
 use Rattle.mc_base.specs.declared.plain.Atom.{Atom}
 use Rattle.mc_base.specs.declared.plain.Atom.TheVariants.{Eq, Ne, In}
-use Rattle.mc_base.specs.Nodes.{null}
 use Rattle.mc_pure.specs.declared.rows.Row.{Row}
 use Rattle.mc_pure.specs.Pure as begin
-use Rattle.mc_pure.specs.Pure.{Pure, IsNode, Base, kind_of, kind_atom, written, kind, block, apart}
+use Rattle.mc_pure.specs.Pure.{Pure, Base, kind_of, kind_atom, written, kind, block, apart}
 use Rattle.mc_pure.specs.Derived.{Follows, IsFalse, base}
 use Rattle.mc_pure.specs.Normal.{IsNormal}
 use Rattle.mc_pure.specs.Rows.{IsTie}
 use Rattle.mc_pure.specs.Classes.{HasNormalForm, NormalSaysAll}
 use Rattle.mc_pure.specs.Laws.{FollowsFromMore}
 use Rattle.mc_pure.specs.Canonical.{IsRangeAtom, IsClassAtom, IsDifference, IsListOf, IsCanonical, ComesBefore, plainly}
-use Rattle.mc_pure_ops.specs.declared.canon.gaps.Gap.{Gap}
 use Rattle.mc_pure_ops.specs.Canon.Order.{Among, IsBefore, Added}
 use Rattle.mc_pure_ops.specs.Canon.Left.{IsLeft, LeavesOut, IsRangeLeft, IsClassLeft}
-use Rattle.mc_pure_ops.specs.Canon.Gaps.{ArePair, IsPlain, DifferenceLeft}
+use Rattle.mc_pure_ops.specs.Canon.Gaps.{ArePair, DifferenceLeft}
 use Rattle.mc_pure_ops.proofs.CanonLemmas.Lists.{added_as}
-use Rattle.mc_pure_ops.proofs.CanonLemmas.Nodes.{place_of_kind, whole_least, least_whole}
-use Rattle.mc_pure_ops.proofs.CanonLemmas.Plain.{plain, IsPlainly}
+use Rattle.mc_pure_ops.proofs.CanonLemmas.Nodes.{whole_least, least_whole}
+use Rattle.mc_pure.proofs.Placing.{place_of_kind}
+use Rattle.mc_pure_ops.proofs.CanonLemmas.Plain.{plain}
 use Rattle.mc_pure_ops.proofs.CanonLemmas.Exact.{IsDifferenceLeft, difference_true, difference_made}
 use Rattle.mc_pure_ops.proofs.CanonLemmas.Within.{plain_in}
 use Rattle.mc_pure_ops.proofs.CanonLemmas.Listing.{gained, listed, left_in, right_in, either_in, range_step, class_step, difference_step}

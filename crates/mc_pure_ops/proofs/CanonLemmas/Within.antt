@@ -1,5 +1,5 @@
 -- What the ranges and equalities of a list give of the nodes that are left.
-use Rattle.std.proofs.Common.{◌≡◌, ◌≢◌, ℕ, ◌⊎◌, ℤ, pos, ◌+ℤ◌, ◌-ℤ◌, neg_ℤ, ◌≤ℤ◌, ◌<ℤ◌, List, Option, Some, None, slice_get, refl, sym, ◌∙◌, subst, inl, inr, arith}
+use Rattle.std.proofs.Common.{◌≡◌, ℕ, ◌⊎◌, ℤ, pos, ◌+ℤ◌, ◌-ℤ◌, ◌≤ℤ◌, ◌<ℤ◌, List, Option, Some, refl, sym, subst, inl, inr, arith}
 use Rattle.std.proofs.lemmas.Int.{ints}
 use Rattle.mc_base.specs.declared.ids.NodeId.{NodeId}
 use Rattle.mc_base.specs.declared.plain.Kind.{Kind}
@@ -15,8 +15,8 @@ use Rattle.mc_pure.specs.Classes.{NormalSaysAll}
 use Rattle.mc_pure_ops.specs.declared.canon.gaps.Gap.{Gap}
 use Rattle.mc_pure_ops.specs.Canon.Left.{IsLeft, IsLeastLeft, IsRangeLeft, IsClassLeft}
 use Rattle.mc_pure_ops.specs.Canon.Gaps.{ArePair, IsPlain, gap_atom}
-use Rattle.mc_pure_ops.proofs.CanonLemmas.Nodes.{decide, in_as, ne_as, not_below, self_zero, meets}
-use Rattle.mc_pure_ops.proofs.CanonLemmas.Plain.{range_of}
+use Rattle.mc_pure_ops.proofs.CanonLemmas.Nodes.{in_as, ne_as, self_zero, meets}
+use Rattle.mc_pure.proofs.Changing.{decide}
 use Rattle.mc_pure_ops.proofs.JoinLemmas.Follow.{eq_as}
 
 -- a disequality moved along two equalities

@@ -1,6 +1,5 @@
-use Rattle.std.proofs.Common.{◌≡◌, refl}
-use Rattle.mc_pure_ops.proofs.CanonLemmas.Lists.{same_node, number}
-use Rattle.mc_pure_ops.proofs.CanonLemmas.Heirs.{heir_same, heir_other, heir_kept, heir_first, heir_nearer}
+use Rattle.mc_pure.proofs.Changing.{same_node, number}
+use Rattle.mc_pure_ops.proofs.CanonLemmas.Heirs.{heir_same, heir_other}
 use Rattle.mc_pure_ops.proofs.canon.forgetting.next_heir.Goals as goal
 
 pub returns-then-other-lost : goal.returns-then-other-lost

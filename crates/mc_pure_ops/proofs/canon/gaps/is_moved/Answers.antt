@@ -1,7 +1,6 @@
 use Rattle.std.proofs.Common.{◌≡◌, ℤ, pos, ◌+ℤ◌, ◌-ℤ◌, arith}
 use Rattle.std.proofs.lemmas.Int.{ints}
-use Rattle.mc_pure_ops.specs.Canon.Gaps.{MovedPlaces}
-use Rattle.mc_pure_ops.proofs.CanonLemmas.Lists.{same_node}
+use Rattle.mc_pure.proofs.Changing.{same_node}
 use Rattle.mc_pure_ops.proofs.canon.gaps.is_moved.Goals as goal
 use Rattle.mc_pure.proofs.Clean.{fits_small, same_cast}
 

@@ -1,7 +1,6 @@
-use Rattle.std.proofs.Common.{◌≡◌, refl, arith}
+use Rattle.std.proofs.Common.{refl, arith}
 use Rattle.std.proofs.lemmas.Int.{ints}
-use Rattle.mc_base.specs.declared.ids.NodeId.{NodeId}
-use Rattle.mc_pure_ops.proofs.CanonLemmas.Lists.{number}
+use Rattle.mc_pure.proofs.Changing.{number}
 use Rattle.mc_pure_ops.proofs.CanonLemmas.Nodes.{whole_place}
 use Rattle.mc_pure_ops.proofs.CanonLemmas.Taken.{node_at}
 use Rattle.mc_pure_ops.proofs.CanonLemmas.Moving.{start_class, start_yes, start_other, start_itself, start_no}

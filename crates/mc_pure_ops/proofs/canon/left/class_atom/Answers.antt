@@ -1,6 +1,5 @@
-use Rattle.std.proofs.Common.{◌≡◌, sym, refl}
 use Rattle.mc_base.specs.Nodes.{null}
-use Rattle.mc_pure_ops.proofs.CanonLemmas.Lists.{same_node, number}
+use Rattle.mc_pure.proofs.Changing.{same_node, number}
 use Rattle.mc_pure_ops.proofs.CanonLemmas.Single.{lost_class, no_class, null_class, self_class, other_class}
 use Rattle.mc_pure_ops.proofs.canon.left.class_atom.Goals as goal
 

@@ -1,6 +1,6 @@
-use Rattle.std.proofs.Common.{◌≡◌, sym, refl}
+use Rattle.std.proofs.Common.{sym, refl}
 use Rattle.mc_base.specs.Nodes.{null}
-use Rattle.mc_pure_ops.proofs.CanonLemmas.Lists.{same_node, number}
+use Rattle.mc_pure.proofs.Changing.{same_node, number}
 use Rattle.mc_pure_ops.proofs.CanonLemmas.Single.{null_range, lost_range, no_kind_range, wide_range, narrow_range}
 use Rattle.mc_pure_ops.proofs.canon.left.range_atom.Goals as goal
 
