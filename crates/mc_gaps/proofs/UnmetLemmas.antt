@@ -1,4 +1,3 @@
-pub mod Back
 pub mod Cases
 pub mod Searching
 pub mod Told

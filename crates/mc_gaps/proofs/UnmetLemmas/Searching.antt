@@ -1,9 +1,10 @@
 -- Tests of edges, and edges that pass them.
-use Rattle.std.proofs.Common.{◌≡◌, ◌<◌, ◌≤◌, ℕ, zero, suc, List, [], ◌∷◌, Bool, true, false, Some, slice_get, refl, ap, ◌∙◌, eq-eqb, arith, ◌⊎◌, inl, inr}
+use Rattle.std.proofs.Common.{◌≡◌, ◌<◌, ◌≤◌, ℕ, zero, suc, List, [], ◌∷◌, Bool, true, false, Some, slice_get, refl, ap, ◌∙◌, eq-eqb, arith}
 use Rattle.std.specs.Prelude.{◌==◌, ◌||◌, if◌then◌else◌}
 use Rattle.std.specs.List.{list_any}
 use Rattle.mc_base.specs.declared.ids.EdgeId.{EdgeId}
 use Rattle.mc_state.specs.declared.graph.edge.Edge.{Edge}
+use Rattle.mc_rules_logic.proofs.UnfoldLemmas.Judging.{or_left, or_right}
 use Rattle.mc_state.specs.Graph.Graph.{Edges, edge_with, IdsAscend}
 
 -- an item that passes at a place
@@ -21,21 +22,10 @@ any_placed test (x ∷ xs) e = at (any_placed test xs) (test x) refl e
     at rest true holds e = record { place = 0; item = x; there = refl; holds = holds }
     at rest false holds e = let p = rest e in record { place = suc p.place; item = p.item; there = p.there; holds = p.holds }
 
-pub or_true : (a b : Bool) → (a || b) ≡ true → (a ≡ true) ⊎ (b ≡ true)
-or_true true b e = inl refl
-or_true false b e = inr e
-
-pub or_here : (a b : Bool) → a ≡ true → (a || b) ≡ true
-or_here a b e = ap (λ a. a || b) e
-
-pub or_there : (a b : Bool) → b ≡ true → (a || b) ≡ true
-or_there true b e = refl
-or_there false b e = e
-
 pub any_at : {A : Type 0} (test : A → Bool) (xs : List A) (place : ℕ) (x : A) → slice_get xs place ≡ Some x → test x ≡ true → list_any test xs ≡ true
 any_at test [] place x there holds = absurd (cc there)
-any_at test (y ∷ xs) zero x there holds = let same : y ≡ x = cc there in or_here (test y) (list_any test xs) (ap test same ∙ holds)
-any_at test (y ∷ xs) (suc place) x there holds = or_there (test y) (list_any test xs) (any_at test xs place x there holds)
+any_at test (y ∷ xs) zero x there holds = let same : y ≡ x = cc there in or_left (test y) (list_any test xs) (ap test same ∙ holds)
+any_at test (y ∷ xs) (suc place) x there holds = or_right (test y) (list_any test xs) (any_at test xs place x there holds)
 
 -- an edge that passes, by its id, which is no less than the least
 pub record Found (test : EdgeId × Edge → Bool) (low : ℕ) (es : Edges) : Type 0 where
@@ -72,5 +62,5 @@ any_with test [] id e there holds = absurd (cc there)
 any_with test ((k, x) ∷ es) id e there holds = at (any_with test es id e) (k.0 == id.0) there
   where
     at : (edge_with es id ≡ Some e → ((k : EdgeId) → test (k, e) ≡ true) → list_any test es ≡ true) → (here : Bool) → (if here then Some x else edge_with es id) ≡ Some e → (test (k, x) || list_any test es) ≡ true
-    at rest true there = let same : x ≡ e = cc there in or_here (test (k, x)) (list_any test es) (ap (λ y. test (k, y)) same ∙ holds k)
-    at rest false there = or_there (test (k, x)) (list_any test es) (rest there holds)
+    at rest true there = let same : x ≡ e = cc there in or_left (test (k, x)) (list_any test es) (ap (λ y. test (k, y)) same ∙ holds k)
+    at rest false there = or_right (test (k, x)) (list_any test es) (rest there holds)

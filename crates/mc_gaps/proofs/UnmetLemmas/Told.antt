@@ -39,9 +39,10 @@ use Rattle.mc_rules_steps.specs.Operands.{code_at, HasBlock}
 use Rattle.mc_rules_steps.specs.Unmet.{taken, IsFirstUnknown, AreKnown, NoSummaryAt, NoBackAt, LacksBlock, LacksAccess, LacksField, LacksFreed, LacksEmptiness, Lacks, IsGap, IsUnmet}
 use Rattle.mc_gaps.specs.Unmet.Gaps.{first_unknown, may_unfold, lacks, gap_if, block_gap, is_unknown, lacks_field, or_else, field_gap, free_gap, freed_gap, empty_gap, lacking, unknown_or, gap_of, gap_at}
 use Rattle.mc_gaps.specs.Unmet.Laws.{IsNoShape, GapsAreTold}
-use Rattle.mc_gaps.proofs.UnmetLemmas.Back.{back_from, back_to}
+use Rattle.mc_rules_logic.proofs.BackLemmas.Judging.{back_from, back_to}
+use Rattle.mc_rules_logic.proofs.UnfoldLemmas.Judging.{or_true, or_left, or_right}
 use Rattle.mc_gaps.proofs.UnmetLemmas.Cases.{IsPlain, Tests, lacking_from, lacking_to}
-use Rattle.mc_gaps.proofs.UnmetLemmas.Searching.{any_placed, any_at, any_found, any_with, or_true, or_here, or_there}
+use Rattle.mc_gaps.proofs.UnmetLemmas.Searching.{any_placed, any_at, any_found, any_with}
 
 -- nodes that are equal are so both ways
 swapped : (s : State) (a b : NodeId) → AreEqual s a b → AreEqual s b a
@@ -108,7 +109,7 @@ module _ (told : BackIsTold) (know : Test) (defs : List Def) (s : State) (tells 
         let any : list_any (may_unfold know defs n) es ≡ true = any_at (may_unfold know defs n) es place (id, Ind at pred args) there (equal_to know s tells n at equal) in
         cc (none, any)
     no_start none place id (Seg at args pred stop ends) there summary equal =
-        let here : may_unfold know defs n (id, Seg at args pred stop ends) ≡ true = or_here _ (ends_back_at know defs pred n 0 ends) (equal_to know s tells n at equal) in
+        let here : may_unfold know defs n (id, Seg at args pred stop ends) ≡ true = or_left _ (ends_back_at know defs pred n 0 ends) (equal_to know s tells n at equal) in
         let any : list_any (may_unfold know defs n) es ≡ true = any_at (may_unfold know defs n) es place (id, Seg at args pred stop ends) there here in
         cc (none, any)
 
@@ -116,7 +117,7 @@ module _ (told : BackIsTold) (know : Test) (defs : List Def) (s : State) (tells 
     no_back none place id at stop args ends pred i other there back ends_at equal' =
         let last : equal know other n ≡ true = equal_to know s tells other n (swapped s n other equal') in
         let known : ends_back_at know defs pred n 0 ends ≡ true = back_to know defs pred n 0 ends i other ends_at (let at : 0 + i ≡ i = omega arith in ap (is_back defs pred) at ∙ (told defs pred i).1 back) last in
-        let here : may_unfold know defs n (id, Seg at args pred stop ends) ≡ true = or_there (equal know n at) _ known in
+        let here : may_unfold know defs n (id, Seg at args pred stop ends) ≡ true = or_right (equal know n at) _ known in
         let any : list_any (may_unfold know defs n) es ≡ true = any_at (may_unfold know defs n) es place (id, Seg at args pred stop ends) there here in
         cc (none, any)
 

@@ -29,14 +29,14 @@ some_test test (Some a) e = (a, refl, e)
 
 module _ (know : Test) (defs : List Def) (pred : PredId) (node : NodeId) where
   -- an end argument at a back position, which is known to be equal to the node
-  record ReachedBack (position : ℕ) (ends : List NodeId) : Type 0 where
-    place : ℕ
-    last : NodeId
-    ends_at : slice_get ends place ≡ Some last
-    back : is_back defs pred (position + place) ≡ true
-    known : equal know last node ≡ true
+  pub record ReachedBack (position : ℕ) (ends : List NodeId) : Type 0 where
+    pub place : ℕ
+    pub last : NodeId
+    pub ends_at : slice_get ends place ≡ Some last
+    pub back : is_back defs pred (position + place) ≡ true
+    pub known : equal know last node ≡ true
 
-  back_from : (position : ℕ) (ends : List NodeId) → ends_back_at know defs pred node position ends ≡ true → ReachedBack position ends
+  pub back_from : (position : ℕ) (ends : List NodeId) → ends_back_at know defs pred node position ends ≡ true → ReachedBack position ends
   back_from position [] e = absurd (cc e)
   back_from position (x ∷ ends) e =
       elim (or_true (is_back defs pred position && equal know x node) (ends_back_at know defs pred node (suc position) ends) e) [
@@ -51,7 +51,7 @@ module _ (know : Test) (defs : List Def) (pred : PredId) (node : NodeId) where
             record { place = suc place; last = more.last; ends_at = more.ends_at; back = ap (is_back defs pred) at ∙ more.back; known = more.known }
       ]
 
-  back_to : (position : ℕ) (ends : List NodeId) (place : ℕ) (last : NodeId) → slice_get ends place ≡ Some last → is_back defs pred (position + place) ≡ true → equal know last node ≡ true → ends_back_at know defs pred node position ends ≡ true
+  pub back_to : (position : ℕ) (ends : List NodeId) (place : ℕ) (last : NodeId) → slice_get ends place ≡ Some last → is_back defs pred (position + place) ≡ true → equal know last node ≡ true → ends_back_at know defs pred node position ends ≡ true
   back_to position [] place last e back known = cc
   back_to position (x ∷ ends) zero last e back known =
       let same : x ≡ last = cc in
