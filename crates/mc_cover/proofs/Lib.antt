@@ -3,7 +3,7 @@ pub mod Terms
 pub mod Fixed
 pub mod Parts
 pub mod Left
-mod Sound
+pub mod Sound
 mod Listed
 mod Picked
 mod Complete

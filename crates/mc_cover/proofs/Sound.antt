@@ -115,7 +115,7 @@ module _ (w : Setting) (s : State) (tells : Tells w.know s) (fit : IsDefs w.defs
       (id, p.b, still_there w.edges log m id (Block p.b shape (map Some contents)) by free is, equal_from w.know s tells g.at (plain p.b) p.same_at, left_less w.edges log m id by)
 
   -- terms for a rule's names
-  abbrev terms : (g : Goal) (place : ℕ) (block : Option EdgeId) (by : Named) → RuleParts w g place block by → RuleTerms w.defs s g.pred g.at g.args
+  abbrev pub terms : (g : Goal) (place : ℕ) (block : Option EdgeId) (by : Named) → RuleParts w g place block by → RuleTerms w.defs s g.pred g.at g.args
   terms g place block by p =
       let names = names_at g by.rule p.contents in
       let r = fixed_front (g.at ∷ (g.args ++ map plain p.contents)) by.rule.atoms in

@@ -18,7 +18,7 @@ use Rattle.mc_flow.specs.declared.defs.rules.Rule.{Rule}
 use Rattle.mc_flow.specs.declared.defs.shapes.StructInfo.{StructInfo}
 use Rattle.mc_flow.specs.Defs.Conditions.{DefsFit, RuleFitsStructs, CallFits, content_kinds}
 use Rattle.mc_state.specs.declared.graph.edge.Edge.{Edge}
-use Rattle.mc_state.specs.declared.graph.edge.Edge.TheVariants.{Block, Ind, Seg}
+use Rattle.mc_state.specs.declared.graph.edge.Edge.TheVariants.{Ind, Seg}
 use Rattle.mc_state.specs.Graph.Graph.{Edges, Graph, IdsAscend, edge_with, without}
 use Rattle.mc_state.specs.Named.{are_distinct, is_among, others}
 use Rattle.mc_state.proofs.Named.{gone, kept_other}
@@ -27,9 +27,9 @@ use Rattle.mc_pure.specs.Derived as pure
 use Rattle.mc_pure.specs.Pure.{HasKind}
 use Rattle.mc_state.specs.declared.goal.Goal.{Goal}
 use Rattle.mc_state.specs.declared.terms.Term.{Term}
-use Rattle.mc_state.specs.Covers.{BlockIsTaken, Cover, CoverAt, CallsAreFound, IsByInd, IsBySeg, IsByRule, RuleTerms}
-use Rattle.mc_state.specs.Facts.{IsFalse, Derives}
-use Rattle.mc_state.specs.Fits.{AreNodes, ArgsFit, HaveKinds, IsWellMade}
+use Rattle.mc_state.specs.Covers.{BlockIsTaken, Cover, CoverAt, CallsAreFound, IsByInd, IsBySeg, IsByRule}
+use Rattle.mc_state.specs.Facts.{IsFalse}
+use Rattle.mc_state.specs.Fits.{ArgsFit, IsWellMade}
 use Rattle.mc_state.specs.State.{State, next_node, pure_of}
 use Rattle.mc_state.specs.Terms.{plain, term_of, AreEqualTerms, AreAllEqualTerms, TermsLieIn}
 use Rattle.mc_state.proofs.Ids.{ids_without}
@@ -41,7 +41,7 @@ use Rattle.mc_follow.specs.Ending.Ending.{AreSameTerms, AreAllSameTerms, AreName
 use Rattle.mc_follow.specs.Ending.Ending as ending
 use Rattle.mc_follow.specs.Ending.Laws.{SidesCanEnd}
 use Rattle.mc_follow.proofs.EndingLemmas.Edges.{is_new, next_none, stays}
-use Rattle.mc_follow.proofs.EndingLemmas.Folding.{BlockIsThere, CallsAreMade, Folds, all_at, folds}
+use Rattle.mc_follow.proofs.EndingLemmas.Folding.{BlockIsThere, CallsAreMade, folds}
 use Rattle.mc_follow.proofs.EndingLemmas.Forgetting.{forgets_zero, forgotten, forgotten_later, made_fits, made_rises, names_zero, none_is_next, zeroed}
 use Rattle.mc_follow.proofs.EndingLemmas.Kinded.{AllKnown, HaveTermKinds, IsKinded, call_kinded, contents_kinded, each_known, end_kinded, goal_kinded, names_known, no_contents_kinded, rule_fits_structs}
 use Rattle.mc_follow.proofs.EndingLemmas.Naming.{closes, meets, names}

@@ -1,9 +1,8 @@
 -- A rule whose block is there and whose calls are made, with nodes for its names, folds into an Ind.
-use Rattle.std.proofs.Common.{◌≡◌, inl, inr, ℕ, zero, suc, ℤ, pos, ◌+ℤ◌, ◌-ℤ◌, neg_ℤ, true, Option, Some, None, List, [], ◌∷◌, ◌++◌, length, map, slice_get, refl, sym, ◌∙◌, ap, subst, arith, append_assoc, length-append}
-use Rattle.std.specs.Prelude.{All, option_to_list}
+use Rattle.std.proofs.Common.{◌≡◌, inl, inr, ℕ, zero, suc, ℤ, ◌+ℤ◌, ◌-ℤ◌, neg_ℤ, true, Option, Some, None, List, [], ◌∷◌, ◌++◌, length, map, refl, sym, ◌∙◌, ap, subst, arith, append_assoc, length-append}
+use Rattle.std.specs.Prelude.{option_to_list}
 use Rattle.std.specs.List.{AllByRecursion}
 use Rattle.std.proofs.lemmas.Int.{ints}
-use Rattle.std.proofs.lemmas.Option.{slice_get_within, get_or_from_slice_get}
 use Rattle.mc_base.specs.declared.ids.EdgeId.{EdgeId}
 use Rattle.mc_base.specs.declared.ids.NodeId.{NodeId}
 use Rattle.mc_base.specs.declared.ids.PredId.{PredId}
@@ -12,13 +11,11 @@ use Rattle.mc_base.specs.declared.plain.Atom.{Atom}
 use Rattle.mc_base.specs.declared.plain.Atom.TheVariants as atom
 use Rattle.mc_base.specs.declared.plain.Kind.{Kind}
 use Rattle.mc_base.specs.declared.plain.Kind.TheVariants.{Ptr}
-use Rattle.mc_base.specs.Nodes.{null}
 use Rattle.mc_flow.specs.declared.defs.rules.Call.{Call}
 use Rattle.mc_flow.specs.declared.defs.rules.Def.{Def}
 use Rattle.mc_flow.specs.declared.defs.rules.DefAtom.{DefAtom}
 use Rattle.mc_flow.specs.declared.defs.rules.DefAtom.TheVariants.{Eq, Ne, In}
-use Rattle.mc_flow.specs.declared.defs.rules.Rule.{Rule}
-use Rattle.mc_flow.specs.Defs.Conditions.{IsDefs, DefFits, RuleFits, RuleFitsStructs, numbers_from}
+use Rattle.mc_flow.specs.Defs.Conditions.{IsDefs, RuleFits, numbers_from}
 use Rattle.mc_flow.specs.Defs.Instances.{node_of, base_node, atom_of}
 use Rattle.mc_state.specs.declared.graph.edge.Edge.{Edge}
 use Rattle.mc_state.specs.declared.graph.edge.Edge.TheVariants.{Block, Ind}
@@ -32,18 +29,10 @@ use Rattle.mc_state.specs.Facts.{IsFalse, Derives, AreEqual, AreAllEqual}
 use Rattle.mc_state.specs.Fits.{HaveKinds}
 use Rattle.mc_state.specs.State.{State}
 use Rattle.mc_state.specs.Terms.{plain, term_of, base_term, atom_on}
-use Rattle.mc_rules_logic.specs.Fold.Folded.{folded, FieldsMatch, BlocksMatch, CallsMatch, Matches, FoldsInd, ind_fold}
-use Rattle.mc_follow.specs.Ending.Ending.{Written, AreSameTerms, AreAllSameTerms, IsNamed, AreNamed, IsMadeBy, IsLater}
+use Rattle.mc_cover.proofs.Sound.{rule_fits}
+use Rattle.mc_rules_logic.specs.Fold.Folded.{folded, FieldsMatch, BlocksMatch, CallsMatch, FoldsInd, ind_fold}
+use Rattle.mc_follow.specs.Ending.Ending.{Written, AreSameTerms, AreAllSameTerms, AreNamed, IsMadeBy, IsLater}
 use Rattle.mc_follow.proofs.EndingLemmas.Written.{derives, eq_as, ne_as, node_meets, term_meets}
-
-pub all_at : {A : Type 0} (P : A → Type 0) (xs : List A) (i : ℕ) (x : A) → slice_get xs i ≡ Some x → All P xs → P x
-all_at P xs i x is all = subst P (get_or_from_slice_get xs i x x is) (all i x (slice_get_within xs i x is))
-
--- a rule that is listed fits
-pub rule_fits : (defs : List Def) → IsDefs defs → (p : ℕ) (def : Def) → slice_get defs p ≡ Some def → (place : ℕ) (rule : Rule) → slice_get def.rules place ≡ Some rule → RuleFits defs def.params rule
-rule_fits defs fit p def d place rule l =
-    let rules = (all_at (DefFits fit.0 defs) defs p def d fit.1).rules in
-    (all_at (RuleFitsStructs fit.0 defs def.params) def.rules place rule l rules).fits
 
 -- the block of a rule is there, at an equal node, and these are its contents; without a block there are none
 abbrev pub BlockIsThere : State → Option StructId → Term → List NodeId → Option EdgeId → Type 0

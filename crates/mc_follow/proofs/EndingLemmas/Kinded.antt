@@ -1,6 +1,6 @@
 -- The kinds of the terms that the names of a rule stand for.
-use Rattle.std.proofs.Common.{◌≡◌, inl, inr, ◌<◌, ◌+◌, ℕ, zero, suc, Option, Some, None, List, [], ◌∷◌, ◌++◌, length, map, take, drop, slice_get, Bool, true, false, refl, sym, ◌∙◌, ap, subst, arith, append_assoc, length-append, eqb-true}
-use Rattle.std.specs.Prelude.{◌==◌, All, option_map, if◌then◌else◌}
+use Rattle.std.proofs.Common.{◌≡◌, inl, ◌<◌, ◌+◌, ℕ, zero, suc, Option, Some, None, List, [], ◌∷◌, ◌++◌, length, map, take, drop, slice_get, Bool, true, false, refl, sym, ◌∙◌, ap, subst, arith, append_assoc, length-append, eqb-true}
+use Rattle.std.specs.Prelude.{◌==◌, option_map, if◌then◌else◌}
 use Rattle.std.specs.List.{AllByRecursion}
 use Rattle.std.proofs.lemmas.List.{length-map}
 use Rattle.std.proofs.lemmas.Option.{slice_get_within}
@@ -17,17 +17,17 @@ use Rattle.mc_flow.specs.declared.defs.rules.DefAtom.{DefAtom}
 use Rattle.mc_flow.specs.declared.defs.rules.DefAtom.TheVariants.{Eq, Ne, In}
 use Rattle.mc_flow.specs.declared.defs.rules.Rule.{Rule}
 use Rattle.mc_flow.specs.declared.defs.shapes.StructInfo.{StructInfo}
-use Rattle.mc_flow.specs.Defs.Conditions.{DefsFit, DefFits, RuleFits, RuleFitsStructs, CallFits, AtomsFit, BaseFits, content_kinds, kinds_of}
+use Rattle.mc_flow.specs.Defs.Conditions.{DefsFit, DefFits, RuleFitsStructs, CallFits, AtomsFit, BaseFits, content_kinds, kinds_of}
 use Rattle.mc_state.specs.declared.graph.edge.Edge.{Edge}
-use Rattle.mc_state.specs.declared.graph.edge.Edge.TheVariants.{Block, Ind, Seg}
+use Rattle.mc_state.specs.declared.graph.edge.Edge.TheVariants.{Block, Seg}
 use Rattle.mc_state.specs.Graph.Graph.{Edges, edge_with}
 use Rattle.mc_pure.specs.Pure.{Kinds, HasKind}
 use Rattle.mc_state.specs.declared.terms.Term.{Term}
 use Rattle.mc_state.specs.Covers.{Fixes, RuleTerms}
 use Rattle.mc_state.specs.Fits.{ArgsFit, HaveKinds, MayHaveKinds, EdgeFitsDefs, EdgeFitsStructs, IsWellMade}
 use Rattle.mc_state.specs.State.{State}
-use Rattle.mc_state.specs.Terms.{plain, plus, term_of, base_term, TermsLieIn}
-use Rattle.mc_follow.proofs.EndingLemmas.Folding.{all_at}
+use Rattle.mc_state.specs.Terms.{plain, term_of, base_term}
+use Rattle.mc_cover.proofs.Options.{all_at}
 
 -- a term for each kind, of that kind
 abbrev pub HaveTermKinds : Kinds → List Kind → List Term → Type 0

@@ -1,11 +1,10 @@
 -- The goals of a cover are made, the last one first.
-use Rattle.std.proofs.Common.{◌≡◌, ◌⊎◌, inl, inr, ℕ, zero, suc, Bool, true, false, not, ◌&&◌, ◌||◌, Option, Some, None, List, [], ◌∷◌, ◌++◌, length, map, refl, sym, ◌∙◌, ap, subst, arith, eqb-true, eq-eqb, ◌≤◌, append_assoc, length-append, ◌+◌}
+use Rattle.std.proofs.Common.{◌≡◌, inl, inr, ℕ, suc, Bool, true, false, not, ◌||◌, Option, Some, None, List, [], ◌∷◌, ◌++◌, length, map, refl, sym, ◌∙◌, ap, subst, arith, eq-eqb, ◌≤◌, length-append, ◌+◌}
 use Rattle.std.specs.Prelude.{◌==◌, All, is_some, option_map, option_to_list}
 use Rattle.std.proofs.lemmas.List.{length-map}
 use Rattle.std.specs.List.{AllByRecursion}
 use Rattle.mc_base.specs.declared.ids.EdgeId.{EdgeId}
 use Rattle.mc_base.specs.declared.ids.NodeId.{NodeId}
-use Rattle.mc_base.specs.declared.ids.PredId.{PredId}
 use Rattle.mc_base.specs.declared.ids.StructId.{StructId}
 use Rattle.mc_base.specs.declared.plain.Kind.{Kind}
 use Rattle.mc_base.specs.declared.plain.VarInfo.{VarInfo}
@@ -15,8 +14,8 @@ use Rattle.mc_flow.specs.declared.defs.rules.Rule.{Rule}
 use Rattle.mc_flow.specs.declared.defs.shapes.StructInfo.{StructInfo}
 use Rattle.mc_flow.specs.Defs.Conditions.{DefsFit, CallFits, RuleFitsStructs, content_kinds}
 use Rattle.mc_state.specs.declared.graph.edge.Edge.{Edge}
-use Rattle.mc_state.specs.declared.graph.edge.Edge.TheVariants.{Block, Ind, Seg}
-use Rattle.mc_state.specs.Graph.Graph.{Edges, Graph, edge_with}
+use Rattle.mc_state.specs.declared.graph.edge.Edge.TheVariants.{Ind, Seg}
+use Rattle.mc_state.specs.Graph.Graph.{Graph, edge_with}
 use Rattle.mc_state.specs.Known.{Test, Tells}
 use Rattle.mc_state.specs.Named.{are_distinct, is_among, others}
 use Rattle.mc_state.proofs.Tests.{and_both}
@@ -24,28 +23,27 @@ use Rattle.mc_shape_search.specs.Search.Search.{is_free, is_unused, takes_this, 
 use Rattle.mc_cover.specs.declared.goals.Goal.{Goal}
 use Rattle.mc_cover.specs.declared.goals.Mark.{Mark}
 use Rattle.mc_cover.specs.declared.goals.Mark.TheVariants.{AtEnd, ByInd, BySeg, ByRule, ByCall}
-use Rattle.mc_cover.specs.Goals.{Setting, Stop, behind_seg, contents_by, is_ind, is_seg, whole_block}
-use Rattle.mc_cover.specs.Marks.{Named, calls_of, calls_of_rule, def_at, edge_of, ends_here, fits, goal_of, names_at, rule_at, takes}
+use Rattle.mc_cover.specs.Goals.{Setting, Stop, behind_seg, contents_by, is_ind, whole_block}
+use Rattle.mc_cover.specs.Marks.{Named, calls_of, calls_of_rule, def_at, edge_of, ends_here, fits, goal_of, rule_at, takes}
 use Rattle.mc_state.specs.declared.terms.Term.{Term}
-use Rattle.mc_state.specs.Covers.{RuleTerms}
-use Rattle.mc_state.specs.Facts.{IsFalse, Derives}
+use Rattle.mc_state.specs.Facts.{IsFalse}
 use Rattle.mc_state.specs.Fits.{IsBounded, IsWellMade}
 use Rattle.mc_state.specs.State.{State}
-use Rattle.mc_state.specs.Terms.{plain, term_of, AreEqualTerms, AreAllEqualTerms, TermsLieIn}
+use Rattle.mc_state.specs.Terms.{plain, AreEqualTerms, AreAllEqualTerms, TermsLieIn}
 use Rattle.mc_rules_logic.specs.Fold.Folded.{folded, ClosesSeg, FoldsInd, ind_fold}
 use Rattle.mc_follow.specs.declared.ending.met.Met.{Met}
 use Rattle.mc_follow.specs.Ending.Ending.{AreNamed, AreSameTerms, AreAllSameTerms, IsGrown, IsLater, IsMadeBy}
-use Rattle.mc_follow.specs.Ending.Making.{AreMadeBy, AreNamesOf, IsMaking, Opened, marks_of, setting_in}
+use Rattle.mc_follow.specs.Ending.Making.{AreMadeBy, IsMaking, Opened, marks_of, setting_in}
 use Rattle.mc_follow.proofs.EndingLemmas.Edges.{is_new, next_none, stays}
-use Rattle.mc_follow.proofs.EndingLemmas.Ends.{among_none, apart_more, clash, lie_count, made_grown, same_id, there_or}
+use Rattle.mc_follow.proofs.EndingLemmas.Ends.{among_none, apart_more, clash, lie_count, made_grown, same_id}
 use Rattle.mc_cover.proofs.Parts.{RuleParts, block_parts, ind_parts, rule_parts, seg_parts}
-use Rattle.mc_cover.proofs.Fixed.{fixed_front, fixed_fixes}
-use Rattle.mc_follow.proofs.EndingLemmas.Folding.{BlockIsThere, CallsAreMade, all_at, folds, rule_fits}
+use Rattle.mc_cover.proofs.Sound.{terms}
+use Rattle.mc_follow.proofs.EndingLemmas.Folding.{BlockIsThere, CallsAreMade, folds}
 use Rattle.mc_follow.proofs.EndingLemmas.Kinded.{AllKnown, HaveTermKinds, IsKinded, call_kinded, contents_kinded, each_known, end_kinded, names_known, no_contents_kinded, rule_fits_structs}
 use Rattle.mc_follow.proofs.EndingLemmas.Naming.{closes}
-use Rattle.mc_cover.proofs.Options.{not_there, same_some, then_some, there}
-use Rattle.mc_cover.proofs.Terms.{all_equal_from, all_lie_from, atoms_from, equal_from}
-use Rattle.mc_follow.proofs.EndingLemmas.Written.{all_same_grown, later_on, same_grown}
+use Rattle.mc_cover.proofs.Options.{same_some, then_some, there}
+use Rattle.mc_cover.proofs.Terms.{all_equal_from, equal_from}
+use Rattle.mc_follow.proofs.EndingLemmas.Written.{later_on}
 
 -- ---- what marks take
 
@@ -167,35 +165,6 @@ module _ (structs : List StructInfo) (defs : List Def) (vars : List VarInfo) (fi
 
   -- ---- terms for the names of a rule
 
-  first_count : (h : Goal) (def : Def) (contents : List NodeId) (count : ℕ) → length h.args ≡ length def.params → length contents ≡ count → suc (length def.params) + count ≡ length (h.at ∷ (h.args ++ map plain contents))
-  first_count h def contents count a c =
-      let x : length (h.args ++ map plain contents) ≡ length h.args + length (map plain contents) = length-append h.args (map plain contents) in
-      let y : length (map plain contents) ≡ length contents = length-map contents plain in
-      omega arith
-
-  abbrev terms : (h : Goal) (place : ℕ) (block : Option EdgeId) (by : Named) → RuleParts w h place block by → RuleTerms defs before h.pred h.at h.args
-  terms h place block by p =
-      let names = names_at h by.rule p.contents in
-      let r = fixed_front (h.at ∷ (h.args ++ map plain p.contents)) by.rule.atoms in
-      let rule = rule_fits defs (structs, fit) h.pred.0 p.def p.defined place by.rule p.listed in
-      record {
-        def = p.def;
-        defined = p.defined;
-        rule = by.rule;
-        place = place;
-        listed = p.listed;
-        count = p.count;
-        contents = p.contents;
-        contents_count = p.contents_count;
-        names = names;
-        fixed = r.0;
-        front = r.1 ∙ ap (λ l. h.at ∷ l) (append_assoc h.args (map plain p.contents) r.0);
-        kinds = all_lie_from know before tells by.rule.names names p.kinds;
-        sums = fixed_fixes by.rule.names (h.at ∷ (h.args ++ map plain p.contents)) by.rule.atoms (suc (length p.def.params) + length by.rule.contents)
-            (first_count h p.def p.contents (length by.rule.contents) p.count p.contents_count) rule.names.atoms names refl;
-        atoms = atoms_from know before tells names by.rule.atoms p.atoms;
-      }
-
   contents_are : (h : Goal) (params : List Kind) (rule : Rule) → RuleFitsStructs structs defs params rule → (o : Option StructId) → rule.block ≡ o → (block : Option EdgeId) (contents : List NodeId)
       → contents_by know before.graph.edges h.at o block ≡ Some contents → HaveTermKinds before.kinds (content_kinds params rule) (map plain contents)
   contents_are h params rule fits None is None contents e =
@@ -219,11 +188,11 @@ module _ (structs : List StructInfo) (defs : List Def) (vars : List VarInfo) (fi
     pub all_known : AllKnown before.kinds by.rule.names by.names
     all_known =
         subst (λ (ts : List Term). AllKnown before.kinds by.rule.names ts) (sym p.names)
-        (names_known structs defs vars fit before made_before h.pred h.at h.args asked.0 (terms h place block by p)
+        (names_known structs defs vars fit before made_before h.pred h.at h.args asked.0 (terms w before tells (structs, fit) h place block by p)
         (contents_are h p.def.params by.rule fits_structs by.rule.block refl block p.contents p.taken))
 
     pub all_lie : TermsLieIn before by.rule.names by.names
-    all_lie = subst (λ (ts : List Term). TermsLieIn before by.rule.names ts) (sym p.names) (terms h place block by p).kinds
+    all_lie = subst (λ (ts : List Term). TermsLieIn before by.rule.names ts) (sym p.names) (terms w before tells (structs, fit) h place block by p).kinds
 
     pub all_kinds : HaveTermKinds before.kinds by.rule.names by.names
     all_kinds = each_known before.kinds by.rule.names by.names (lie_count before by.rule.names by.names all_lie) all_known
@@ -491,7 +460,7 @@ module _ (structs : List StructInfo) (defs : List Def) (vars : List VarInfo) (fi
         let u = all_front (λ id. uses takes (marks_of (met ∷ front)) id.0 ≡ false) own ids m.unused in
         let own_distinct = block_apart met front block own is_edge u.0 d.0 in
         let gone = option_to_list block ++ own in
-        let r = folds defs (structs, fit) before t sound m.later met.goal.pred met.goal.at met.goal.args (terms met.goal place block by p) ns
+        let r = folds defs (structs, fit) before t sound m.later met.goal.pred met.goal.at met.goal.args (terms w before tells (structs, fit) met.goal place block by p) ns
         (subst (λ (ts : List Term). AreNamed t by.rule.names ts ns) p.names named) block own consistent here
         (subst (λ (ts : List Term). CallsAreMade t ts by.rule.calls own) p.names made.0) own_distinct in
         let new : Edge = Ind r.node met.goal.pred r.nodes in
