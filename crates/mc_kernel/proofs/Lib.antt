@@ -11,6 +11,7 @@ pub mod Lines
 pub mod ListExample
 pub mod Lists
 pub mod LoopExample
+pub mod LoopStates
 pub mod Plain
 pub mod Soundness
 pub mod Visits

@@ -1,190 +1,119 @@
 -- The certificate of the loop is valid.
-use Rattle.std.proofs.Common.{◌≡◌, ◌≢◌, ℕ, zero, suc, [], ◌∷◌, Some, None, false, refl, ap, subst, arith, inl, inr, ℤ, pos}
-use Rattle.std.specs.Prelude.{Contains}
-use Rattle.std.proofs.lemmas.Int.{ints}
-use Rattle.mc_base.specs.declared.ids.PointId.{PointId}
-use Rattle.mc_base.specs.declared.plain.Kind.TheVariants.{Int}
-use Rattle.mc_base.specs.declared.plain.Atom.TheVariants.{Eq, Ne}
+use Rattle.std.proofs.Common.{◌≡◌, ◌≢◌, ℕ, [], ◌∷◌, Some, None, true, false, refl, subst, arith, inr}
 use Rattle.mc_base.specs.Nodes.{null}
 use Rattle.mc_flow.specs.Defs.Examples.{structs, defs}
 use Rattle.mc_flow.specs.Valid.{IsSkip}
-use Rattle.mc_state.specs.Graph.Graph.{no_edges}
 use Rattle.mc_pure.specs.Examples.{node}
 use Rattle.mc_pure.specs.Laws.{TrueIsNotFalse}
 use Rattle.mc_state.specs.declared.line.Form.TheVariants.{Certificate}
-use Rattle.mc_state.specs.RawStates.{IsWellFormedRaw, state_of}
-use Rattle.mc_state.specs.State.{State, with_atom}
+use Rattle.mc_state.specs.declared.line.InstrRule.TheVariants.{S1, S2, S3, S17}
+use Rattle.mc_state.specs.RawStates.{IsWellFormedRaw}
+use Rattle.mc_state.specs.State.{State}
 use Rattle.mc_state.specs.Facts.{IsFalse}
+use Rattle.mc_lines.specs.declared.cert.line.Line.TheVariants.{Step, L13}
 use Rattle.mc_rules_steps.specs.Steps.{moved_to}
 use Rattle.mc_kernel.specs.Branches.{Setting, MayStep, roots, AreCuts}
 use Rattle.mc_kernel.specs.Instances.{JumpsTo, Reads}
 use Rattle.mc_kernel.specs.Certificates.{IsValidCertificate}
 use Rattle.mc_kernel.specs.Examples as ex
 use Rattle.mc_kernel.proofs.Lists.{contains_here}
-use Rattle.mc_kernel.proofs.Plain.{not_false, contains_one}
-use Rattle.mc_kernel.proofs.ListExample.{entry, gone, zeros}
+use Rattle.mc_kernel.proofs.Plain.{contains_one}
+use Rattle.mc_kernel.proofs.ListExample.{entry, gone}
+use Rattle.mc_kernel.proofs.LoopStates as loop
+use Rattle.mc_kernel.proofs.LoopStates.{head, with_input, at_zero, not_zero, after_zero, after_other, head_sound, input_sound, zero_sound, other_sound}
 use Rattle.mc_rules_steps.proofs.ExampleFlow.{all_none}
 
 abbrev setting : Setting
-setting = record { form = Certificate; cuts = ex.at 1 ∷ []; heads = (ex.at 1, state_of ex.loop_state) ∷ [] }
+setting = loop.setting Certificate false
 
--- ---- states
+-- the jump to the head, which is not whole
+jumps : (s : State) → s.env ≡ None ∷ None ∷ [] → (IsFalse s → ⊥) → JumpsTo setting 0 (null ∷ []) [] (gone 1 s) []
+jumps s unknown_vars sound = loop.jumps Certificate false s unknown_vars (λ e. cc) sound
 
-abbrev head : State
-head = state_of ex.loop_state
-
--- the input is node 1; it is 0, or not
-abbrev with_input : State
-with_input = record { env = None ∷ Some (node 1) ∷ []; kinds = (node 1, Int) ∷ []; graph = no_edges; atoms = []; next = 2; whole = false }
-
-abbrev at_zero : State
-at_zero = with_atom with_input (Eq (node 1) null (pos 0))
-
-abbrev not_zero : State
-not_zero = with_atom with_input (Ne (node 1) null (pos 0))
-
--- the input is known no more
-abbrev after_zero : State
-after_zero = record at_zero { env = None ∷ None ∷ [] }
-
-abbrev after_other : State
-after_other = record not_zero { env = None ∷ None ∷ [] }
+abbrev may : (p : ℕ) (s : State) → 1 ≢ p → MayStep setting (gone p s)
+may = loop.may Certificate false
 
 abbrev with_result : State
-with_result = record after_zero { env = Some null ∷ None ∷ [] }
+with_result = let s = after_zero false in record s { env = Some null ∷ None ∷ [] }
 
-abbrev one_at : ℕ → ℤ
-one_at zero = pos 0
-one_at (suc n) = pos 1
-
--- ---- the lines
-
-no_cut : (p : ℕ) → 1 ≢ p → Contains (ex.at 1 ∷ []) (ex.at p) → ⊥
-no_cut p ne c = let same : ex.at 1 ≡ ex.at p = contains_one (ex.at 1) (ex.at p) c in ne (ap (λ (q : PointId). q.0) same)
-
--- an instruction's line may stand on a branch that has moved to a point that is no cut
-may : (p : ℕ) (s : State) → 1 ≢ p → MayStep setting (gone p s)
-may p s ne = record { plain = refl; open_still = refl; before_cut = inl (no_cut p ne) }
-
--- where no variable is known, a branch jumps to the head
-jumps : (s : State) → s.env ≡ None ∷ None ∷ [] → (IsFalse s → ⊥) → JumpsTo setting 0 (null ∷ []) [] (gone 1 s) []
-jumps s unknown_vars sound = record {
-  may = record { plain = refl; at_cut = contains_here (ex.at 1) []; has_moved = refl };
-  consistent = sound;
-  head = head;
-  there = refl;
-  jumps = record {
-    count = refl;
-    null_image = refl;
-    kinds = tt;
-    vars = rw unknown_vars (tt, (tt, tt));
-    picked = [];
-    left = s.graph.edges;
-    picks = (refl, refl);
-    match = tt;
-    atoms = tt;
-    whole = λ e. cc;
-  };
-  gives = refl;
-}
-
+-- each line with the branches that come of it
 module _ (law : TrueIsNotFalse) where
-  entry_sound : IsFalse entry → ⊥
-  entry_sound wrong = not_false zeros [] [] refl tt tt law wrong
+  -- where the input is not 0, back to the head
+  back : Reads ex.loop_flow defs setting (Step S3 ∷ L13 0 (null ∷ []) [] ∷ []) (gone 7 (not_zero false) ∷ []) []
+  back = (
+    gone 1 (after_other false) ∷ [],
+    [],
+    (may 7 (not_zero false) (omega arith), (moved_to (ex.at 1) (after_other false) ∷ [], record { xs = ex.var 1 ∷ []; q = ex.at 1; at = refl; consistent = other_sound law false; gives = refl }, refl)),
+    ([], [], jumps (after_other false) refl (other_sound law false), (refl, refl), refl),
+    refl,
+  )
 
-  head_sound : IsFalse head → ⊥
-  head_sound wrong = not_false zeros [] [] refl tt tt law wrong
+  -- where it is 0, to the end, and then the other way
+  out : Reads ex.loop_flow defs setting (Step S3 ∷ Step S1 ∷ Step S2 ∷ Step S17 ∷ Step S3 ∷ L13 0 (null ∷ []) [] ∷ []) (gone 4 (at_zero false) ∷ gone 7 (not_zero false) ∷ []) []
+  out = (
+    gone 5 (after_zero false) ∷ [],
+    [],
+    (may 4 (at_zero false) (omega arith), (moved_to (ex.at 5) (after_zero false) ∷ [], record { xs = ex.var 1 ∷ []; q = ex.at 5; at = refl; consistent = zero_sound law false; gives = refl }, refl)),
+    (
+      gone 6 (after_zero false) ∷ [],
+      [],
+      (may 5 (after_zero false) (omega arith), (moved_to (ex.at 6) (after_zero false) ∷ [], record { q = ex.at 6; at = refl; consistent = zero_sound law false; gives = refl }, refl)),
+      (
+        gone 8 with_result ∷ [],
+        [],
+        (may 6 (after_zero false) (omega arith), (moved_to (ex.at 8) with_result ∷ [], record { x = ex.var 0; from = _; q = ex.at 8; at = refl; consistent = zero_sound law false; n = null; known = refl; gives = refl }, refl)),
+        ([], [], (may 8 with_result (omega arith), ([], record { at = refl; consistent = zero_sound law false; gives = refl }, refl)), back, refl),
+        refl,
+      ),
+      refl,
+    ),
+    refl,
+  )
 
-  input_sound : IsFalse with_input → ⊥
-  input_sound wrong = not_false zeros ((node 1, Int) ∷ []) [] refl ((omega (arith, ints), omega (arith, ints)), tt) tt law wrong
-
-  zero_sound : IsFalse at_zero → ⊥
-  zero_sound wrong = not_false zeros ((node 1, Int) ∷ []) (Eq (node 1) null (pos 0) ∷ []) refl ((omega (arith, ints), omega (arith, ints)), tt) (refl, tt) law wrong
-
-  other_sound : IsFalse not_zero → ⊥
-  other_sound wrong =
-      not_false one_at ((node 1, Int) ∷ []) (Ne (node 1) null (pos 0) ∷ []) refl ((omega (arith, ints), omega (arith, ints)), tt) ((λ e. omega (arith, ints)), tt) law wrong
-
-  -- each line with the branches that come of it
+  -- from the entry to the head, and from there to the test
   reads : Reads ex.loop_flow defs setting ex.loop_rules (roots ex.loop_flow setting.heads) []
   reads = (
     gone 1 entry ∷ [],
     [],
-    (record { plain = refl; open_still = refl; before_cut = inr refl }, (moved_to (ex.at 1) entry ∷ [], record { q = ex.at 1; at = refl; consistent = entry_sound; gives = refl }, refl)),
+    (record { plain = refl; open_still = refl; before_cut = inr refl }, (moved_to (ex.at 1) entry ∷ [], record { q = ex.at 1; at = refl; consistent = head_sound law true; gives = refl }, refl)),
     (
       [],
       [],
-      jumps entry refl entry_sound,
+      jumps entry refl (head_sound law true),
       (
-        gone 2 head ∷ [],
+        gone 2 (head false) ∷ [],
         [],
-        (record { plain = refl; open_still = refl; before_cut = inr refl }, (moved_to (ex.at 2) head ∷ [], record { q = ex.at 2; at = refl; consistent = head_sound; gives = refl }, refl)),
+        (record { plain = refl; open_still = refl; before_cut = inr refl }, (moved_to (ex.at 2) (head false) ∷ [], record { q = ex.at 2; at = refl; consistent = head_sound law false; gives = refl }, refl)),
         (
-          gone 3 with_input ∷ [],
+          gone 3 (with_input false) ∷ [],
           [],
-          (may 2 head (omega arith), (moved_to (ex.at 3) with_input ∷ [], record { x = ex.var 1; q = ex.at 3; at = refl; consistent = head_sound; gives = refl }, refl)),
+          (may 2 (head false) (omega arith), (moved_to (ex.at 3) (with_input false) ∷ [], record { x = ex.var 1; q = ex.at 3; at = refl; consistent = head_sound law false; gives = refl }, refl)),
           (
-            gone 4 at_zero ∷ gone 7 not_zero ∷ [],
+            gone 4 (at_zero false) ∷ gone 7 (not_zero false) ∷ [],
             [],
             (
-              may 3 with_input (omega arith),
+              may 3 (with_input false) (omega arith),
               (
-                moved_to (ex.at 4) at_zero ∷ moved_to (ex.at 7) not_zero ∷ [],
+                moved_to (ex.at 4) (at_zero false) ∷ moved_to (ex.at 7) (not_zero false) ∷ [],
                 record {
                   o = _;
                   o' = _;
                   t = ex.at 4;
                   f = ex.at 7;
                   at = refl;
-                  consistent = input_sound;
+                  consistent = input_sound law false;
                   a = node 1;
                   left_known = refl;
                   b = null;
                   right_known = refl;
-                  before = with_input;
+                  before = with_input false;
                   operands = refl;
                   gives = refl;
                 },
                 refl,
               ),
             ),
-            (
-              gone 5 after_zero ∷ [],
-              [],
-              (may 4 at_zero (omega arith), (moved_to (ex.at 5) after_zero ∷ [], record { xs = ex.var 1 ∷ []; q = ex.at 5; at = refl; consistent = zero_sound; gives = refl }, refl)),
-              (
-                gone 6 after_zero ∷ [],
-                [],
-                (may 5 after_zero (omega arith), (moved_to (ex.at 6) after_zero ∷ [], record { q = ex.at 6; at = refl; consistent = zero_sound; gives = refl }, refl)),
-                (
-                  gone 8 with_result ∷ [],
-                  [],
-                  (may 6 after_zero (omega arith), (moved_to (ex.at 8) with_result ∷ [], record { x = ex.var 0; from = _; q = ex.at 8; at = refl; consistent = zero_sound; n = null; known = refl; gives = refl }, refl)),
-                  (
-                    [],
-                    [],
-                    (may 8 with_result (omega arith), ([], record { at = refl; consistent = zero_sound; gives = refl }, refl)),
-                    (
-                      gone 1 after_other ∷ [],
-                      [],
-                      (may 7 not_zero (omega arith), (moved_to (ex.at 1) after_other ∷ [], record { xs = ex.var 1 ∷ []; q = ex.at 1; at = refl; consistent = other_sound; gives = refl }, refl)),
-                      (
-                        [],
-                        [],
-                        jumps after_other refl other_sound,
-                        (refl, refl),
-                        refl,
-                      ),
-                      refl,
-                    ),
-                    refl,
-                  ),
-                  refl,
-                ),
-                refl,
-              ),
-              refl,
-            ),
+            out,
             refl,
           ),
           refl,

@@ -1,157 +1,57 @@
 -- The chain of a loop and an assertion after it.
-use Rattle.std.proofs.Common.{◌≡◌, ◌≢◌, ℕ, zero, suc, List, [], ◌∷◌, Some, None, true, slice_get, refl, ap, subst, arith, inl, inr, ℤ, pos}
-use Rattle.std.specs.Prelude.{Contains}
-use Rattle.std.specs.List.{AllByRecursion}
+use Rattle.std.proofs.Common.{◌≡◌, ◌≢◌, ℕ, List, [], ◌∷◌, None, true, refl, subst, arith, inl, inr, pos}
 use Rattle.std.proofs.lemmas.Int.{ints}
-use Rattle.mc_base.specs.declared.ids.NodeId.{NodeId}
-use Rattle.mc_base.specs.declared.ids.PointId.{PointId}
-use Rattle.mc_base.specs.declared.plain.Kind.{Kind}
-use Rattle.mc_base.specs.declared.plain.Kind.TheVariants.{Int, Ptr}
-use Rattle.mc_base.specs.declared.plain.Atom.{Atom}
+use Rattle.mc_base.specs.declared.plain.Kind.TheVariants.{Int}
 use Rattle.mc_base.specs.declared.plain.Atom.TheVariants.{Eq, Ne}
-use Rattle.mc_base.specs.Atoms.{IsTrueAtom}
-use Rattle.mc_base.specs.Kinds.{InKind}
-use Rattle.mc_base.specs.Nodes.{Valuation, null}
+use Rattle.mc_base.specs.Nodes.{null}
 use Rattle.mc_flow.specs.declared.instr.Instr.TheVariants as instr
 use Rattle.mc_flow.specs.Valid.{IsSkip}
-use Rattle.mc_state.specs.Graph.Graph.{no_edges}
 use Rattle.mc_state.specs.Known.{Test}
 use Rattle.mc_pure.specs.Derived as derived
 use Rattle.mc_pure.specs.Derived.{IsFalse}
 use Rattle.mc_pure.specs.Examples.{node}
-use Rattle.mc_pure.specs.Laws.{IsTrue, TrueIsNotFalse}
+use Rattle.mc_pure.specs.Laws.{TrueIsNotFalse}
 use Rattle.mc_pure.specs.Pure as known
-use Rattle.mc_pure.specs.Pure.{Kinds, kind_atom}
 use Rattle.mc_state.specs.Facts as facts
 use Rattle.mc_state.specs.Facts.{IsTidy}
-use Rattle.mc_state.specs.State.{State, unknown, with_atom}
+use Rattle.mc_state.specs.State.{State, with_atom}
 use Rattle.mc_rules_steps.specs.declared.gap.Gap.TheVariants.{Reached}
 use Rattle.mc_rules_steps.specs.Steps.{moved_to}
-use Rattle.mc_kernel.specs.Branches.{Head, Path, Setting, MayStep, path_of, roots, AreCuts}
+use Rattle.mc_state.specs.declared.line.Form.TheVariants.{Chain}
+use Rattle.mc_kernel.specs.Branches.{Head, MayStep, roots, AreCuts}
 use Rattle.mc_kernel.specs.Examples as ex
 use Rattle.mc_kernel.specs.Instances.{JumpsTo}
 use Rattle.mc_joins.specs.Parts.{Basis}
 use Rattle.mc_joins.specs.Chains.Chains.{over, ReadsPass, HasAlarms, IsUnfinished}
 use Rattle.mc_joins.specs.Chains.Examples.{assert_flow, assert_document, short_document, first_pass, second_pass}
-use Rattle.mc_kernel.proofs.Plain.{contains_one, known_of}
-
--- ---- what is true by some numbers is not false
-
-each_at : {X : Type 0} (P : X → Type 0) (xs : List X) (place : ℕ) (x : X) → slice_get xs place ≡ Some x → AllByRecursion P xs → P x
-each_at P [] place x e a = absurd (cc e)
-each_at P (y ∷ ys) zero x e a = let same : y ≡ x = cc e in subst P same a.0
-each_at P (y ∷ ys) (suc place) x e a = each_at P ys place x e a.1
-
-kind_true : (v : Valuation) (n : NodeId) (kind : Kind) → InKind kind (v n.0) → IsTrueAtom v (kind_atom n kind)
-kind_true v n Int h = h
-kind_true v n Ptr h = h
-
-module _ (v : Valuation) (kinds : Kinds) (atoms : List Atom) (null : v 0 ≡ pos 0) (kinds_are : AllByRecursion (λ (k : NodeId × Kind). InKind k.1 (v k.0.0)) kinds) (atoms_are : AllByRecursion (IsTrueAtom v) atoms) where
-  base_true : IsTrue v (known_of kinds atoms)
-  base_true f (known.written place e) = each_at (IsTrueAtom v) atoms place f e atoms_are
-  base_true _ known.zero = (omega (arith, ints), omega (arith, ints))
-  base_true _ (known.kind {n} {k} place e) = kind_true v n k (each_at (λ (j : NodeId × Kind). InKind j.1 (v j.0.0)) kinds place (n, k) e kinds_are)
-  base_true _ (known.block place e) = absurd (cc e)
-  base_true _ (known.apart i j ne x y) = absurd (cc x)
-
-  not_false : TrueIsNotFalse → IsFalse (known_of kinds atoms) → ⊥
-  not_false law wrong = law (known_of kinds atoms) v base_true wrong
-
-contains_here : {X : Type 0} (x : X) (xs : List X) → Contains (x ∷ xs) x
-contains_here x xs = (0, omega arith, refl)
+use Rattle.mc_kernel.proofs.ListExample.{gone, zeros}
+use Rattle.mc_kernel.proofs.Lists.{contains_here}
+use Rattle.mc_kernel.proofs.LoopStates as loop
+use Rattle.mc_kernel.proofs.LoopStates.{head, with_input, at_zero, not_zero, after_zero, after_other, head_sound, input_sound, zero_sound, other_sound}
+use Rattle.mc_kernel.proofs.Plain.{contains_one, not_false}
 
 -- ---- states
 
--- nothing is known, at the entry and at the head
-abbrev head : State
-head = unknown 2
-
--- the input is node 1; it is 0, or not
-abbrev with_input : State
-with_input = record { env = None ∷ Some (node 1) ∷ []; kinds = (node 1, Int) ∷ []; graph = no_edges; atoms = []; next = 2; whole = true }
-
-abbrev at_zero : State
-at_zero = with_atom with_input (Eq (node 1) null (pos 0))
-
-abbrev not_zero : State
-not_zero = with_atom with_input (Ne (node 1) null (pos 0))
-
--- the input is known no more
-abbrev after_zero : State
-after_zero = record at_zero { env = None ∷ None ∷ [] }
-
-abbrev after_other : State
-after_other = record not_zero { env = None ∷ None ∷ [] }
-
 -- 0 is 0, or not
 abbrev fails : State
-fails = with_atom after_zero (Eq null null (pos 0))
+fails = with_atom (after_zero true) (Eq null null (pos 0))
 
 abbrev passes : State
-passes = with_atom after_zero (Ne null null (pos 0))
-
--- every node is 0, or node 1 is 1
-abbrev zeros : Valuation
-zeros n = pos 0
-
-abbrev one_at : ℕ → ℤ
-one_at zero = pos 0
-one_at (suc n) = pos 1
+passes = with_atom (after_zero true) (Ne null null (pos 0))
 
 abbrev heads : List Head
-heads = (ex.at 1, head) ∷ []
+heads = (ex.at 1, head true) ∷ []
 
-abbrev setting : Setting
-setting = over (ex.at 1 ∷ []) heads
+abbrev may : (p : ℕ) (s : State) → 1 ≢ p → MayStep (over (ex.at 1 ∷ []) heads) (gone p s)
+may = loop.may Chain true
 
-abbrev gone : ℕ → State → Path
-gone p s = path_of (moved_to (ex.at p) s)
-
-no_cut : (p : ℕ) → 1 ≢ p → Contains (ex.at 1 ∷ []) (ex.at p) → ⊥
-no_cut p ne c = let same : ex.at 1 ≡ ex.at p = contains_one (ex.at 1) (ex.at p) c in ne (ap (λ (q : PointId). q.0) same)
-
--- an instruction's line may stand on a branch that has moved to a point that is no cut
-may : (p : ℕ) (s : State) → 1 ≢ p → MayStep setting (gone p s)
-may p s ne = record { plain = refl; open_still = refl; before_cut = inl (no_cut p ne) }
-
--- where no variable is known and the state is whole without an edge, a branch jumps to the head
-jumps : (s : State) → s.env ≡ None ∷ None ∷ [] → s.whole ≡ true → s.graph.edges ≡ [] → (facts.IsFalse s → ⊥) → JumpsTo setting 0 (null ∷ []) [] (gone 1 s) []
-jumps s unknown_vars whole none sound = record {
-  may = record { plain = refl; at_cut = contains_here (ex.at 1) []; has_moved = refl };
-  consistent = sound;
-  head = head;
-  there = refl;
-  jumps = record {
-    count = refl;
-    null_image = refl;
-    kinds = tt;
-    vars = rw unknown_vars (tt, (tt, tt));
-    picked = [];
-    left = s.graph.edges;
-    picks = (refl, refl);
-    match = tt;
-    atoms = tt;
-    whole = λ e. (whole, none);
-  };
-  gives = refl;
-}
+-- the jump to the head, which is whole, from a whole state without an edge
+jumps : (s : State) → s.env ≡ None ∷ None ∷ [] → s.whole ≡ true → s.graph.edges ≡ [] → (facts.IsFalse s → ⊥) → JumpsTo (over (ex.at 1 ∷ []) heads) 0 (null ∷ []) [] (gone 1 s) []
+jumps s unknown_vars whole none sound = loop.jumps Chain true s unknown_vars (λ e. (whole, none)) sound
 
 module _ (law : TrueIsNotFalse) (know : State → Test) where
   abbrev basis : Basis
   basis = record { know = know; defs = [] }
-
-  head_sound : facts.IsFalse head → ⊥
-  head_sound wrong = not_false zeros [] [] refl tt tt law wrong
-
-  input_sound : facts.IsFalse with_input → ⊥
-  input_sound wrong = not_false zeros ((node 1, Int) ∷ []) [] refl ((omega (arith, ints), omega (arith, ints)), tt) tt law wrong
-
-  zero_sound : facts.IsFalse at_zero → ⊥
-  zero_sound wrong = not_false zeros ((node 1, Int) ∷ []) (Eq (node 1) null (pos 0) ∷ []) refl ((omega (arith, ints), omega (arith, ints)), tt) (refl, tt) law wrong
-
-  other_sound : facts.IsFalse not_zero → ⊥
-  other_sound wrong =
-      not_false one_at ((node 1, Int) ∷ []) (Ne (node 1) null (pos 0) ∷ []) refl ((omega (arith, ints), omega (arith, ints)), tt) ((λ e. omega (arith, ints)), tt) law wrong
 
   fails_sound : facts.IsFalse fails → ⊥
   fails_sound wrong =
@@ -160,9 +60,9 @@ module _ (law : TrueIsNotFalse) (know : State → Test) where
   passes_false : facts.IsFalse passes
   passes_false = derived.apart (derived.base (known.written 1 refl))
 
-  tidy_head : IsTidy head
+  tidy_head : IsTidy (head true)
   tidy_head = record {
-    consistent = head_sound;
+    consistent = head_sound law true;
     reached = λ place id e there. absurd (cc there);
     merged = λ keep gone can e. elim can.gone_is.1 [ inl is ↦ can.not_null is | inr is ↦ absurd (cc is) ];
   }
@@ -170,17 +70,17 @@ module _ (law : TrueIsNotFalse) (know : State → Test) where
   -- the first pass
   opens : ReadsPass assert_flow basis 1 (ex.at 1 ∷ []) first_pass (roots assert_flow []) [] [] heads
   opens = (
-    gone 1 head ∷ [],
+    gone 1 (head true) ∷ [],
     [],
     [],
-    ((record { plain = refl; open_still = refl; before_cut = inr refl }, (moved_to (ex.at 1) head ∷ [], record { q = ex.at 1; at = refl; consistent = head_sound; gives = refl }, refl)), refl),
+    ((record { plain = refl; open_still = refl; before_cut = inr refl }, (moved_to (ex.at 1) (head true) ∷ [], record { q = ex.at 1; at = refl; consistent = head_sound law true; gives = refl }, refl)), refl),
     (
       [],
       heads,
       [],
       record {
         may = record { chain = refl; cut = record { plain = refl; at_cut = contains_here (ex.at 1) []; has_moved = refl }; open_still = refl };
-        consistent = head_sound;
+        consistent = head_sound law true;
         count = refl;
         tidy = record { own = tidy_head; others = tt };
         stuck = tt;
@@ -196,60 +96,60 @@ module _ (law : TrueIsNotFalse) (know : State → Test) where
   -- the second pass
   reads : ReadsPass assert_flow basis 2 (ex.at 1 ∷ []) second_pass (roots assert_flow heads) (gone 8 fails ∷ []) heads heads
   reads = (
-    gone 1 head ∷ [],
+    gone 1 (head true) ∷ [],
     heads,
     gone 8 fails ∷ [],
-    ((record { plain = refl; open_still = refl; before_cut = inr refl }, (moved_to (ex.at 1) head ∷ [], record { q = ex.at 1; at = refl; consistent = head_sound; gives = refl }, refl)), refl),
+    ((record { plain = refl; open_still = refl; before_cut = inr refl }, (moved_to (ex.at 1) (head true) ∷ [], record { q = ex.at 1; at = refl; consistent = head_sound law true; gives = refl }, refl)), refl),
     (
       [],
       heads,
       gone 8 fails ∷ [],
-      (jumps head refl refl refl head_sound, refl),
+      (jumps (head true) refl refl refl (head_sound law true), refl),
       (
-        gone 2 head ∷ [],
+        gone 2 (head true) ∷ [],
         heads,
         gone 8 fails ∷ [],
-        ((record { plain = refl; open_still = refl; before_cut = inr refl }, (moved_to (ex.at 2) head ∷ [], record { q = ex.at 2; at = refl; consistent = head_sound; gives = refl }, refl)), refl),
+        ((record { plain = refl; open_still = refl; before_cut = inr refl }, (moved_to (ex.at 2) (head true) ∷ [], record { q = ex.at 2; at = refl; consistent = head_sound law true; gives = refl }, refl)), refl),
         (
-          gone 3 with_input ∷ [],
+          gone 3 (with_input true) ∷ [],
           heads,
           gone 8 fails ∷ [],
-          ((may 2 head (omega arith), (moved_to (ex.at 3) with_input ∷ [], record { x = ex.var 1; q = ex.at 3; at = refl; consistent = head_sound; gives = refl }, refl)), refl),
+          ((may 2 (head true) (omega arith), (moved_to (ex.at 3) (with_input true) ∷ [], record { x = ex.var 1; q = ex.at 3; at = refl; consistent = head_sound law true; gives = refl }, refl)), refl),
           (
-            gone 5 at_zero ∷ gone 4 not_zero ∷ [],
+            gone 5 (at_zero true) ∷ gone 4 (not_zero true) ∷ [],
             heads,
             gone 8 fails ∷ [],
             (
               (
-                may 3 with_input (omega arith),
+                may 3 (with_input true) (omega arith),
                 (
-                  moved_to (ex.at 5) at_zero ∷ moved_to (ex.at 4) not_zero ∷ [],
-                  record { o = _; o' = _; t = ex.at 5; f = ex.at 4; at = refl; consistent = input_sound; a = node 1; left_known = refl; b = null; right_known = refl; before = with_input; operands = refl; gives = refl },
+                  moved_to (ex.at 5) (at_zero true) ∷ moved_to (ex.at 4) (not_zero true) ∷ [],
+                  record { o = _; o' = _; t = ex.at 5; f = ex.at 4; at = refl; consistent = input_sound law true; a = node 1; left_known = refl; b = null; right_known = refl; before = with_input true; operands = refl; gives = refl },
                   refl,
                 ),
               ),
               refl,
             ),
             (
-              gone 6 after_zero ∷ [],
+              gone 6 (after_zero true) ∷ [],
               heads,
               gone 8 fails ∷ [],
-              ((may 5 at_zero (omega arith), (moved_to (ex.at 6) after_zero ∷ [], record { xs = ex.var 1 ∷ []; q = ex.at 6; at = refl; consistent = zero_sound; gives = refl }, refl)), refl),
+              ((may 5 (at_zero true) (omega arith), (moved_to (ex.at 6) (after_zero true) ∷ [], record { xs = ex.var 1 ∷ []; q = ex.at 6; at = refl; consistent = zero_sound law true; gives = refl }, refl)), refl),
               (
-                gone 7 after_zero ∷ [],
+                gone 7 (after_zero true) ∷ [],
                 heads,
                 gone 8 fails ∷ [],
-                ((may 6 after_zero (omega arith), (moved_to (ex.at 7) after_zero ∷ [], record { q = ex.at 7; at = refl; consistent = zero_sound; gives = refl }, refl)), refl),
+                ((may 6 (after_zero true) (omega arith), (moved_to (ex.at 7) (after_zero true) ∷ [], record { q = ex.at 7; at = refl; consistent = zero_sound law true; gives = refl }, refl)), refl),
                 (
                   gone 8 fails ∷ gone 9 passes ∷ [],
                   heads,
                   gone 8 fails ∷ [],
                   (
                     (
-                      may 7 after_zero (omega arith),
+                      may 7 (after_zero true) (omega arith),
                       (
                         moved_to (ex.at 8) fails ∷ moved_to (ex.at 9) passes ∷ [],
-                        record { o = _; o' = _; t = ex.at 8; f = ex.at 9; at = refl; consistent = zero_sound; a = null; left_known = refl; b = null; right_known = refl; before = after_zero; operands = refl; gives = refl },
+                        record { o = _; o' = _; t = ex.at 8; f = ex.at 9; at = refl; consistent = zero_sound law true; a = null; left_known = refl; b = null; right_known = refl; before = after_zero true; operands = refl; gives = refl },
                         refl,
                       ),
                     ),
@@ -266,11 +166,11 @@ module _ (law : TrueIsNotFalse) (know : State → Test) where
                       [],
                       ((refl, passes_false, refl), refl),
                       (
-                        gone 1 after_other ∷ [],
+                        gone 1 (after_other true) ∷ [],
                         heads,
                         [],
-                        ((may 4 not_zero (omega arith), (moved_to (ex.at 1) after_other ∷ [], record { xs = ex.var 1 ∷ []; q = ex.at 1; at = refl; consistent = other_sound; gives = refl }, refl)), refl),
-                        ([], heads, [], (jumps after_other refl refl refl other_sound, refl), (refl, refl, refl), refl),
+                        ((may 4 (not_zero true) (omega arith), (moved_to (ex.at 1) (after_other true) ∷ [], record { xs = ex.var 1 ∷ []; q = ex.at 1; at = refl; consistent = other_sound law true; gives = refl }, refl)), refl),
+                        ([], heads, [], (jumps (after_other true) refl refl refl (other_sound law true), refl), (refl, refl, refl), refl),
                         refl,
                       ),
                       refl,
