@@ -5,9 +5,8 @@ use Rattle.mc_base.specs.declared.text.token.Token.{Token}
 use Rattle.mc_base.specs.declared.text.token.TokenKind.{TokenKind}
 use Rattle.mc_c_syntax.specs.declared.ast.class.Class.{Class}
 use Rattle.mc_c_syntax.specs.declared.ast.trees.Comparison.TheVariants as Comparison
-use Rattle.std.specs.Prelude.{slice_index, ◌++◌}
-use Rattle.std.specs.Str.Parse.{digits_value}
-use Rattle.mc_base.specs.Text.Numbers.{Spells, as_zero, as_decimal, as_hexadecimal}
+use Rattle.std.specs.Prelude.{◌++◌}
+use Rattle.mc_c_syntax.proofs.AstLemmas.Numbers.{one_number}
 use Rattle.mc_c_syntax.specs.Ast.Names.{IsName, IsNumber, is_same, is_in, is_reserved, mark_of}
 use Rattle.mc_c_syntax.specs.Ast.Classes.{IsClass, grammar_marks, grammar_words}
 
@@ -420,22 +419,10 @@ class_of_name Class.OtherMark token is name = absurd (let e : TokenKind.Mark ≡
 class_of_name Class.OtherWord token is name = absurd (let e : true ≡ false = sym is.1 ∙ name.free in cc)
 class_of_name Class.OtherNumber token is name = absurd (let e : TokenKind.Number ≡ TokenKind.Name = sym is.0 ∙ name.kind in cc)
 
--- a word spells one number
-one_number : (word : List ℕ) (n m : ℕ) → Spells word n → Spells word m → n ≡ m
-one_number word n m (as_zero a b) (as_zero c d) = b ∙ sym d
-one_number word n m (as_zero a b) (as_decimal c differs v) = absurd (differs (ap (λ (w : List ℕ). slice_index w 0) a))
-one_number word n m (as_zero a b) (as_hexadecimal ds e h v) = absurd (let q : codes "0" ≡ codes "0x" ++ ds = sym a ∙ e in cc)
-one_number word n m (as_decimal c differs v) (as_zero a b) = absurd (differs (ap (λ (w : List ℕ). slice_index w 0) a))
-one_number word n m (as_decimal c differs v) (as_decimal c' differs2 v2) = v ∙ sym v2
-one_number word n m (as_decimal c differs v) (as_hexadecimal ds e h w) = absurd (differs (ap (λ (w : List ℕ). slice_index w 0) e))
-one_number word n m (as_hexadecimal ds e h w) (as_zero a b) = absurd (let q : codes "0" ≡ codes "0x" ++ ds = sym a ∙ e in cc)
-one_number word n m (as_hexadecimal ds e h w) (as_decimal c differs v) = absurd (differs (ap (λ (w : List ℕ). slice_index w 0) e))
-one_number word n m (as_hexadecimal ds e h w) (as_hexadecimal ds' e' h' w') = let q : codes "0x" ++ ds ≡ codes "0x" ++ ds' = sym e ∙ e' in let same : ds ≡ ds' = cc in w ∙ ap (digits_value 16) same ∙ sym w'
-
 -- a token that is of a class and is a number is of the class of the number
 pub class_of_number : (class : Class) (token : Token) (n : ℕ) → IsClass token class → IsNumber token n → class ≡ Class.Number n
 class_of_number Class.Name token n is number = absurd (let e : TokenKind.Name ≡ TokenKind.Number = sym is.kind ∙ number.kind in cc)
-class_of_number (Class.Number m) token n is number = ap Class.Number (one_number token.text m n is.spelled number.spelled)
+class_of_number (Class.Number m) token n is number = ap Class.Number (one_number is number)
 class_of_number Class.End token n is number = absurd (let e : TokenKind.End ≡ TokenKind.Number = sym is ∙ number.kind in cc)
 class_of_number (Class.Compare c) token n is number = absurd (no_number (Class.Compare c) token number.kind (mark_known (Class.Compare c) token tt is))
 class_of_number Class.Arrow token n is number = absurd (no_number Class.Arrow token number.kind (mark_known Class.Arrow token tt is))

@@ -17,7 +17,8 @@ use Rattle.mc_c_parse_expr.specs.declared.expression.Group.{Group}
 use Rattle.mc_c_parse_expr.specs.Turns.{InTurn, in_turn, marked, Moves}
 use Rattle.mc_c_parse_expr.specs.Primaries.{CompletesPrimary, behind_left, behind_input}
 use Rattle.mc_c_parse_expr.specs.Expressions.{nothing, GoesOn, goes_on, Behind, AtOperand}
-use Rattle.mc_c_parse_expr.proofs.Classes.{minus_is, before_is, name_is, number_is, null_is, input_is, one_number}
+use Rattle.mc_c_parse_expr.proofs.Classes.{minus_is, before_is, name_is, number_is, null_is, input_is}
+use Rattle.mc_c_syntax.proofs.AstLemmas.Numbers.{one_number}
 use Rattle.mc_c_parse_expr.proofs.Marks.{clash, mark_number, mark_word, mark_name, number_word, number_name, word_name, word_clash}
 
 -- `-`

@@ -18,7 +18,8 @@ use Rattle.mc_def_parse.specs.declared.item.ItemReader.TheVariants as ItemReader
 use Rattle.mc_def_parse.specs.Grammar.{Is, IsKind, plain, unsigned, signed, number, name, added, taken, last_name, next_name, IsItem, call, fixes, relates, bounds}
 use Rattle.mc_def_parse.specs.Steps.{Takes, BySymbol}
 use Rattle.mc_def_parse.specs.Readers.{Stops, SumStops, BoundStops, NamesStop, NameThenStops, FixedStops, NameStopsBy, NameStops, NumberStops, signed_sum, moved_sum, signed_bound, BaseStopsBy, CompletesItem}
-use Rattle.mc_def_parse.proofs.Steps.{one_number, number_symbol}
+use Rattle.mc_c_syntax.proofs.AstLemmas.Numbers.{one_number}
+use Rattle.mc_def_parse.proofs.Steps.{number_symbol}
 
 -- ---- the start
 int_forward : {item : Item} {token : Token} {tokens rest : Tokens} → Is Symbol.Int token → IsItem item (token ∷ tokens) rest → CompletesItem ItemReader.Int tokens rest item

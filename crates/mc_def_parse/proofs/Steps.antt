@@ -1,16 +1,13 @@
 -- Steps of readers.
-use Rattle.std.proofs.Common.{◌≡◌, ℕ, List, ◌∷◌, refl, ap, sym, ◌∙◌, subst}
-use Rattle.std.specs.Prelude.{slice_index, Result, Ok, Err, IfOk}
-use Rattle.std.specs.Str.Parse.{digits_value}
-use Rattle.mc_base.specs.Text.Numbers.{Spells, as_zero, as_decimal, as_hexadecimal}
+use Rattle.std.proofs.Common.{◌≡◌, ℕ, ◌∷◌, refl, ap, sym, subst}
+use Rattle.std.specs.Prelude.{Result, Ok, Err, IfOk}
 use Rattle.mc_base.specs.declared.text.token.Token.{Token}
 use Rattle.mc_c_syntax.specs.Ast.Names.{Tokens, IsNumber}
+use Rattle.mc_c_syntax.proofs.AstLemmas.Numbers.{one_number}
 use Rattle.mc_c_syntax.specs.Ast.Readers.{Closes, IsStuckAt}
 use Rattle.mc_def_parse.specs.Symbols.{symbol_of, symbol_by}
 use Rattle.mc_def_parse.specs.declared.symbols.Symbol.{Symbol}
-use Rattle.mc_def_parse.specs.declared.step.Step.{Step}
-use Rattle.mc_def_parse.specs.declared.step.Step.TheVariants.{Taken, Closed, Stuck}
-use Rattle.mc_def_parse.specs.Steps.{Takes, StepIs, Then, First, BySymbol, FirstNumber, Gives}
+use Rattle.mc_def_parse.specs.Steps.{Takes, Then, First, BySymbol, FirstNumber, Gives}
 
 -- what holds of every good answer
 pub if_ok : {X E : Type 0} {P Q : X → Type 0} → (r : Result X E) → ((x : X) → P x → Q x) → IfOk r P → IfOk r Q
@@ -18,21 +15,6 @@ if_ok (Ok x) f p = f x p
 if_ok (Err e) f p = tt
 
 -- ---- numbers
-pub spelled_once : {word : List ℕ} {m n : ℕ} → Spells word m → Spells word n → m ≡ n
-spelled_once (as_zero w e) (as_zero w' e') = e ∙ sym e'
-spelled_once (as_zero w e) (as_decimal t first e') = absurd (first (ap (λ s. slice_index s 0) w))
-spelled_once (as_zero w e) (as_hexadecimal digits w' t e') = absurd (let both = sym w ∙ w' in cc)
-spelled_once (as_decimal t first e) (as_zero w e') = absurd (first (ap (λ s. slice_index s 0) w))
-spelled_once (as_decimal t first e) (as_decimal t' first' e') = e ∙ sym e'
-spelled_once (as_decimal t first e) (as_hexadecimal digits w' t' e') = absurd (first (ap (λ s. slice_index s 0) w'))
-spelled_once (as_hexadecimal digits w t e) (as_zero w' e') = absurd (let both = sym w ∙ w' in cc)
-spelled_once (as_hexadecimal digits w t e) (as_decimal t' first e') = absurd (first (ap (λ s. slice_index s 0) w))
-spelled_once (as_hexadecimal digits w t e) (as_hexadecimal digits' w' t' e') = let both = sym w ∙ w' in let same : digits ≡ digits' = cc in e ∙ ap (digits_value 16) same ∙ sym e'
-
--- a token is one number
-pub one_number : {token : Token} {m n : ℕ} → IsNumber token m → IsNumber token n → m ≡ n
-one_number h k = spelled_once h.spelled k.spelled
-
 pub number_symbol : {token : Token} {n : ℕ} → IsNumber token n → symbol_of token ≡ Symbol.Number
 number_symbol {token} h = ap (λ kind. symbol_by kind token.text) h.kind
 

@@ -1,14 +1,13 @@
 -- Tokens that are the same to the grammar, wherever they stand.
 use Rattle.std.proofs.Common.{◌≡◌, ℕ, List, [], ◌∷◌, ◌++◌, ap, sym, ◌∙◌, subst, map}
-use Rattle.std.specs.Prelude.{slice_index}
-use Rattle.std.specs.Str.Parse.{digits_value}
 use Rattle.std.proofs.lemmas.List.{map-append}
 use native.Mathlib.Omega.{arith}
 use Rattle.mc_base.specs.declared.text.token.Token.{Token}
 use Rattle.mc_base.specs.declared.text.token.TokenKind.TheVariants as TokenKind
-use Rattle.mc_base.specs.Text.Numbers.{Spells, as_zero, as_decimal, as_hexadecimal}
+use Rattle.mc_base.specs.Text.Numbers.{Spells}
 use Rattle.mc_c_syntax.specs.declared.ast.trees.Name.{Name}
 use Rattle.mc_c_syntax.specs.Ast.Names.{Tokens, IsMark, IsWord, IsName, IsNumber, IsAlias, IsNoElse, is_reserved, is_in, name_of}
+use Rattle.mc_c_syntax.proofs.AstLemmas.Numbers.{one_number}
 use Rattle.mc_c_grammar.specs.Printed.Aside.{nowhere, name_aside}
 
 -- two tokens are the same: one kind and text, one number, or both the end
@@ -58,21 +57,9 @@ alias_again {aliases = aliases} (same_text k t) is = record { name = name_again 
 alias_again (same_number p q) is = absurd (let n = is.name in grind arith)
 alias_again (same_end p q) is = absurd (let n = is.name in grind arith)
 
--- a word spells one number
-pub one_number : {word : List ℕ} {m n : ℕ} → Spells word m → Spells word n → m ≡ n
-one_number (as_zero e v) (as_zero f w) = v ∙ sym w
-one_number (as_zero e v) (as_decimal d f w) = absurd (f (ap (λ l. slice_index l 0) e))
-one_number (as_zero e v) (as_hexadecimal digits f d w) = absurd (let g = sym e ∙ f in grind arith)
-one_number (as_decimal d f w) (as_zero e v) = absurd (f (ap (λ l. slice_index l 0) e))
-one_number (as_decimal d f w) (as_decimal d' f' w') = w ∙ sym w'
-one_number (as_decimal d f w) (as_hexadecimal digits e d' w') = absurd (f (ap (λ l. slice_index l 0) e))
-one_number (as_hexadecimal digits f d w) (as_zero e v) = absurd (let g = sym e ∙ f in grind arith)
-one_number (as_hexadecimal digits e d w) (as_decimal d' f' w') = absurd (f' (ap (λ l. slice_index l 0) e))
-one_number (as_hexadecimal digits e d w) (as_hexadecimal digits' e' d' w') = let g = sym e ∙ e' in let h : digits ≡ digits' = cc in w ∙ ap (digits_value 16) h ∙ sym w'
-
 pub number_again : {n : ℕ} {a b : Token} → AreSame a b → IsNumber a n → IsNumber b n
 number_again {n = n} (same_text k t) is = record { kind = sym k ∙ is.kind; spelled = subst (λ word. Spells word n) t is.spelled; small = is.small }
-number_again {b = b} (same_number p q) is = subst (λ k. IsNumber b k) (one_number p.spelled is.spelled) q
+number_again {b = b} (same_number p q) is = subst (λ k. IsNumber b k) (one_number p is) q
 number_again (same_end p q) is = absurd (grind arith)
 
 -- a name has its text again

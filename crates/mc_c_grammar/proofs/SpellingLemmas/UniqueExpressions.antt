@@ -8,7 +8,7 @@ use Rattle.mc_c_syntax.specs.Ast.Trees.{Left, Expr, number, value, minus, parens
 use Rattle.mc_c_syntax.specs.Ast.Names.{Tokens, IsMark, is_in}
 use Rattle.mc_c_syntax.specs.Ast.Grammar.{Fields, none, more, IsLeft, named, IsUnary, negative, numeral, null_word, input_call, variable, in_parens, Factors, no_factor, factor, IsTerm, product, Terms, no_term, added, taken, IsSum, sum_of}
 use Rattle.mc_c_grammar.proofs.SpellingLemmas.Agree.{Begins, Agree, same, early, late, agree_then, wider, conflict}
-use Rattle.mc_c_grammar.proofs.PrintedLemmas.Alike.{one_number}
+use Rattle.mc_c_syntax.proofs.AstLemmas.Numbers.{one_number}
 
 abbrev pub unary_marks : List (List ℕ)
 unary_marks = codes "->" ∷ []
@@ -65,7 +65,7 @@ mutual
   one_unary (negative is inner) (variable (named is' path')) = absurd (grind arith)
   one_unary (negative is inner) (in_parens before' inner' after') = absurd (grind arith)
   one_unary (numeral is) (negative is' inner') = absurd (grind arith)
-  one_unary (numeral {token = token} {tokens = tokens} is) (numeral is') = number_same token.place tokens (one_number is.spelled is'.spelled)
+  one_unary (numeral {token = token} {tokens = tokens} is) (numeral is') = number_same token.place tokens (one_number is is')
   one_unary (numeral is) (null_word is') = absurd (grind arith)
   one_unary (numeral is) (input_call is' before' after') = absurd (grind arith)
   one_unary (numeral is) (variable (named is' path')) = absurd (grind arith)

@@ -17,7 +17,7 @@ use Rattle.mc_c_syntax.specs.Ast.Grammar.{MoreExpressions, last, next, IsCall, w
 use Rattle.mc_c_grammar.proofs.SpellingLemmas.Agree.{Begins, Agree, same, early, late, agree_then, wider, conflict, never}
 use Rattle.mc_c_grammar.proofs.SpellingLemmas.UniqueExpressions.{unary_marks, sum_marks, one_left, one_sum}
 use Rattle.mc_c_grammar.proofs.SpellingLemmas.UniqueConditions.{unary_to_sum}
-use Rattle.mc_c_grammar.proofs.PrintedLemmas.Alike.{one_number}
+use Rattle.mc_c_syntax.proofs.AstLemmas.Numbers.{one_number}
 
 abbrev pub list_marks : List (List ℕ)
 list_marks = codes "," ∷ sum_marks
@@ -466,12 +466,12 @@ one_argument (null_argument is) (number_argument is') = absurd (grind arith)
 one_argument (null_argument is) (negative_argument is' n) = absurd (grind arith)
 one_argument (number_argument is) (name_argument is') = absurd (grind arith)
 one_argument (number_argument is) (null_argument is') = absurd (grind arith)
-one_argument (number_argument {token = token} {tokens = ts} is) (number_argument is') = number_argument_same token.place ts (one_number is.spelled is'.spelled)
+one_argument (number_argument {token = token} {tokens = ts} is) (number_argument is') = number_argument_same token.place ts (one_number is is')
 one_argument (number_argument is) (negative_argument is' n) = absurd (grind arith)
 one_argument (negative_argument is n) (name_argument is') = absurd (grind arith)
 one_argument (negative_argument is n) (null_argument is') = absurd (grind arith)
 one_argument (negative_argument is n) (number_argument is') = absurd (grind arith)
-one_argument (negative_argument {mark = mark} {tokens = ts} is n) (negative_argument is' n') = negative_argument_same mark.place ts (one_number n.spelled n'.spelled)
+one_argument (negative_argument {mark = mark} {tokens = ts} is n) (negative_argument is' n') = negative_argument_same mark.place ts (one_number n n')
 
 stays_arguments : {a e : List Argument} {ts r : Tokens} → MoreArguments a ts e r → Begins [] ts → Begins (codes "," ∷ []) r
 stays_arguments {ts = ts} path b = absurd (never ts b)
