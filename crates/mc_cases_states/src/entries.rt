@@ -13,6 +13,19 @@ pub fn entry<T: Entry + Drop>(alloc: Global, case: Case<'_>, key: &str) -> Resul
     T::read(alloc, value).context(format_args!("{key}"))
 }
 
+/// The entries of the list that stands by a name, none where nothing does.
+pub fn entry_or_none<T: Entry + Drop>(
+    alloc: Global,
+    case: Case<'_>,
+    key: &str,
+) -> Result<Items<T>> {
+    if case.has(key) {
+        entry(alloc, case, key)
+    } else {
+        Ok(Items::new(alloc))
+    }
+}
+
 /// Two entries side by side.
 pub fn pair<A: Entry + Drop, B: Entry + Drop>(alloc: Global, value: &Value) -> Result<(A, B)> {
     match values_of(value) {

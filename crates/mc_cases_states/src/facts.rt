@@ -1,46 +1,29 @@
 // Facts about nodes: which are entailed, which may be assumed, and their canonical lists. Nodes 1 to 4 are numbers, 5 and
 // 6 are pointers.
+use crate::entries::{entry_or_none, list};
+use crate::known::{add_node, assume_all, block_all};
 use anyhow::{Result, bail};
-use mc_base::{Atom, Items, Kind, NoMemory, NodeId};
+use mc_base::{Atom, Items, NoMemory, NodeId};
 use mc_cases::Case;
-use mc_lines::cert::{Entry, LineFault};
+use mc_lines::cert::Entry;
 use mc_pure::Pure;
 use mc_pure_ops::canon::{canon, forget};
+use mc_state::NodeKind;
 use serde_json::Value;
 use std::alloc::Global;
 
-static KINDS: [(NodeId, Kind); 6] = [
-    (NodeId(5), Kind::Ptr),
-    (NodeId(1), Kind::Int),
-    (NodeId(2), Kind::Int),
-    (NodeId(3), Kind::Int),
-    (NodeId(4), Kind::Int),
-    (NodeId(6), Kind::Ptr),
+static KINDS: [(NodeId, NodeKind); 6] = [
+    (NodeId(5), NodeKind::Ptr),
+    (NodeId(1), NodeKind::Int),
+    (NodeId(2), NodeKind::Int),
+    (NodeId(3), NodeKind::Int),
+    (NodeId(4), NodeKind::Int),
+    (NodeId(6), NodeKind::Ptr),
 ];
 
 fn add_nodes(pure: &mut Pure) -> Result<(), NoMemory> {
     for (node, kind) in KINDS.iter() {
-        if !pure.has(*node) {
-            pure.node(*node, *kind)?;
-        }
-    }
-    Ok(())
-}
-
-fn assume_all(pure: &mut Pure, atoms: &[Atom]) -> Result<(), NoMemory> {
-    for atom in atoms {
-        if pure.allows(atom) {
-            pure.assume(atom)?;
-        }
-    }
-    Ok(())
-}
-
-fn block_all(pure: &mut Pure, starts: &[NodeId]) -> Result<(), NoMemory> {
-    for start in starts {
-        if pure.has(*start) {
-            pure.block(*start)?;
-        }
+        add_node(pure, *node, *kind)?;
     }
     Ok(())
 }
@@ -52,35 +35,19 @@ fn unblock_all(pure: &mut Pure, starts: &[NodeId]) -> Result<(), NoMemory> {
     Ok(())
 }
 
-// The atoms by a name, none where nothing stands there.
-fn atoms(alloc: Global, case: Case<'_>, key: &str) -> Result<Items<Atom>, LineFault> {
-    match case.find(key) {
-        Some(value) => Entry::read(alloc, value),
-        None => Ok(Items::new(alloc)),
-    }
-}
-
-// The nodes by a name, none where nothing stands there.
-fn nodes(alloc: Global, case: Case<'_>, key: &str) -> Result<Items<NodeId>, LineFault> {
-    match case.find(key) {
-        Some(value) => Entry::read(alloc, value),
-        None => Ok(Items::new(alloc)),
-    }
-}
-
 // The six nodes with the atoms of a case assumed, its blocks started, and some of them ended again.
 fn state(alloc: Global, case: Case<'_>) -> Result<Pure> {
     let mut pure = known(alloc, case)?;
-    let starts = nodes(alloc, case, "blocks")?;
+    let starts: Items<NodeId> = entry_or_none(alloc, case, "blocks")?;
     block_all(&mut pure, starts.as_slice())?;
-    let ended = nodes(alloc, case, "unblocked")?;
+    let ended: Items<NodeId> = entry_or_none(alloc, case, "unblocked")?;
     unblock_all(&mut pure, ended.as_slice())?;
     Ok(pure)
 }
 
 // The six nodes with the atoms of a case assumed.
 fn known(alloc: Global, case: Case<'_>) -> Result<Pure> {
-    let atoms = atoms(alloc, case, "atoms")?;
+    let atoms: Items<Atom> = entry_or_none(alloc, case, "atoms")?;
     let mut pure = Pure::new(alloc)?;
     add_nodes(&mut pure)?;
     assume_all(&mut pure, atoms.as_slice())?;
@@ -88,7 +55,7 @@ fn known(alloc: Global, case: Case<'_>) -> Result<Pure> {
 }
 
 /// What comes of the questions of a case, one after the other.
-pub fn came(alloc: Global, case: Case<'_>) -> Result<String> {
+pub fn answer(alloc: Global, case: Case<'_>) -> Result<Value> {
     let pure = state(alloc, case)?;
     let mut out = String::new(alloc);
     add_asked(alloc, &mut out, case, &pure)?;
@@ -96,7 +63,7 @@ pub fn came(alloc: Global, case: Case<'_>) -> Result<String> {
     if case.is("starts") {
         add_starts(&mut out, pure.starts())?;
     }
-    Ok(out)
+    Ok(Value::String(out))
 }
 
 // Whether the facts are inconsistent, what they entail, and what may be assumed.
@@ -104,9 +71,9 @@ fn add_asked(alloc: Global, out: &mut String, case: Case<'_>, pure: &Pure) -> Re
     if pure.is_false() {
         out.push_str("inconsistent ")?;
     }
-    let asks = atoms(alloc, case, "asks")?;
+    let asks: Items<Atom> = entry_or_none(alloc, case, "asks")?;
     add_entailed(out, pure, asks.as_slice())?;
-    let assumes = atoms(alloc, case, "assumes")?;
+    let assumes: Items<Atom> = entry_or_none(alloc, case, "assumes")?;
     add_allowed(out, pure, assumes.as_slice())?;
     Ok(())
 }
@@ -136,7 +103,7 @@ fn add_allowed(out: &mut String, pure: &Pure, atoms: &[Atom]) -> Result<(), NoMe
 }
 
 fn add_ranges(alloc: Global, out: &mut String, case: Case<'_>, pure: &Pure) -> Result<()> {
-    let nodes = nodes(alloc, case, "ranges")?;
+    let nodes: Items<NodeId> = entry_or_none(alloc, case, "ranges")?;
     for node in nodes.as_slice() {
         add_range(out, pure, *node)?;
     }
@@ -163,12 +130,13 @@ fn add_starts(out: &mut String, starts: &[NodeId]) -> Result<(), NoMemory> {
 }
 
 /// The canonical list of what is known, or what is left of it where a node is forgotten.
-pub fn canonical(alloc: Global, case: Case<'_>) -> Result<String> {
+pub fn canonical(alloc: Global, case: Case<'_>) -> Result<Value> {
     let pure = state(alloc, case)?;
-    match case.find("forgotten") {
-        None => shown(alloc, canon(alloc, &pure)?),
-        Some(value) => shown(alloc, left(alloc, &pure, value)?),
-    }
+    let atoms = match case.find("forgotten") {
+        None => canon(alloc, &pure)?,
+        Some(value) => left(alloc, &pure, value)?,
+    };
+    list(alloc, atoms.as_slice())
 }
 
 // What is left where a node is forgotten.
@@ -178,9 +146,4 @@ fn left(alloc: Global, pure: &Pure, value: &Value) -> Result<Vec<Atom>> {
         bail!("no node that can be forgotten");
     }
     Ok(forget(alloc, pure, gone)?)
-}
-
-fn shown(alloc: Global, list: Vec<Atom>) -> Result<String> {
-    let value = Items::of(list).write(alloc)?;
-    Ok(value.to_string(alloc)?)
 }

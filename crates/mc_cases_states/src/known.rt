@@ -1,5 +1,5 @@
 // What is known of nodes, and what is entailed by it.
-use crate::entries::entry;
+use crate::entries::{entry, entry_or_none};
 use anyhow::Result;
 use mc_base::{Atom, Items, Kind, NoMemory, NodeId};
 use mc_cases::Case;
@@ -9,7 +9,7 @@ use serde_json::Value;
 use std::alloc::Global;
 
 /// Adds a node of a kind; node 0 is there.
-fn add_node(pure: &mut Pure, node: NodeId, kind: NodeKind) -> Result<(), NoMemory> {
+pub fn add_node(pure: &mut Pure, node: NodeId, kind: NodeKind) -> Result<(), NoMemory> {
     if pure.has(node) {
         return Ok(());
     }
@@ -27,7 +27,8 @@ fn add_nodes(pure: &mut Pure, kinds: &[NodeKind]) -> Result<(), NoMemory> {
     Ok(())
 }
 
-fn assume_all(pure: &mut Pure, atoms: &[Atom]) -> Result<(), NoMemory> {
+/// Assumes atoms, but for those that may not be assumed.
+pub fn assume_all(pure: &mut Pure, atoms: &[Atom]) -> Result<(), NoMemory> {
     for atom in atoms {
         if pure.allows(atom) {
             pure.assume(atom)?;
@@ -36,7 +37,8 @@ fn assume_all(pure: &mut Pure, atoms: &[Atom]) -> Result<(), NoMemory> {
     Ok(())
 }
 
-fn block_all(pure: &mut Pure, starts: &[NodeId]) -> Result<(), NoMemory> {
+/// Starts blocks at those nodes that are there.
+pub fn block_all(pure: &mut Pure, starts: &[NodeId]) -> Result<(), NoMemory> {
     for start in starts {
         if pure.has(*start) {
             pure.block(*start)?;
@@ -58,10 +60,8 @@ pub fn known(alloc: Global, case: Case<'_>, key: &str) -> Result<Pure> {
 /// The same, and that blocks start at the nodes that stand by another name, if any do.
 pub fn known_with(alloc: Global, case: Case<'_>, key: &str, blocks: &str) -> Result<Pure> {
     let mut pure = known(alloc, case, key)?;
-    if case.has(blocks) {
-        let starts: Items<NodeId> = entry(alloc, case, blocks)?;
-        block_all(&mut pure, starts.as_slice())?;
-    }
+    let starts: Items<NodeId> = entry_or_none(alloc, case, blocks)?;
+    block_all(&mut pure, starts.as_slice())?;
     Ok(pure)
 }
 

@@ -12,6 +12,8 @@
 //! - `entries`: what stands in a case, read as an entry of a document, and lists written.
 //! - `shapes`: the structs, and the definitions of a file.
 //! - `known`: what is known of nodes (`entailed`).
+//! - `facts`: six nodes with facts, blocks that end, ranges and what may be assumed; canonical lists (`facts`,
+//!   `canonical`).
 //! - `joins`: two of them joined (`joins`).
 //! - `renamings`, `renamed`: renamings, and what is known of renamed and merged nodes.
 //! - `states`: texts of states, which are tidy, and which are the same (`texts`, `tidy`, `same`).
@@ -22,6 +24,7 @@
 
 mod covers;
 mod entries;
+mod facts;
 mod guesses;
 mod heaps;
 mod joins;

@@ -1,6 +1,6 @@
 // The cases of a file, tried by what its stem asks.
 use crate::shapes::Shapes;
-use crate::{covers, guesses, heaps, joins, known, long, renamed, renamings, states};
+use crate::{covers, facts, guesses, heaps, joins, known, long, renamed, renamings, states};
 use anyhow::{Result, bail};
 use mc_cases::{Case, Tally, stem, values};
 use serde_json::Value;
@@ -11,6 +11,8 @@ use std::rt::Files;
 fn came_of_atoms(alloc: Global, kind: &str, case: Case<'_>) -> Result<Value> {
     match kind {
         "entailed" => known::answer(alloc, case),
+        "facts" => facts::answer(alloc, case),
+        "canonical" => facts::canonical(alloc, case),
         "joins" => joins::answer(alloc, case),
         "renamed" => renamed::answer(alloc, case),
         "renamings" => renamings::answer(alloc, case),

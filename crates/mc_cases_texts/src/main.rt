@@ -11,14 +11,12 @@
 //! - `definitions`: definition files, and instances of rules.
 //! - `lines`: lines of documents, and first lines of texts.
 //! - `scripts`: scripts, and what their lines answer.
-//! - `facts`: facts about nodes: what is entailed, canonical lists.
 //! - `ranges`: ranges of numbers.
 //! - `input`, `tried`: what a case holds, and the call that tries it.
 #![tactic(auto)]
 
 mod calls;
 mod definitions;
-mod facts;
 mod graphs;
 mod input;
 mod lines;

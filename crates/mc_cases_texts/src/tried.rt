@@ -1,7 +1,7 @@
 // The cases of a file, and the call that tries each.
 use crate::input::Input;
 use crate::{
-    calls, definitions, facts, graphs, lines, ranges, running, scripts, tokens, typed, units, words,
+    calls, definitions, graphs, lines, ranges, running, scripts, tokens, typed, units, words,
 };
 use anyhow::Result;
 use mc_cases::{Case, Tally, stem, values};
@@ -94,14 +94,12 @@ fn came(alloc: Global, kind: &str, case: Case<'_>) -> Result<Option<String>> {
     Ok(Some(came?))
 }
 
-// The same, of cases of lines, scripts, facts and ranges.
+// The same, of cases of lines, scripts and ranges.
 fn came_of_parts(alloc: Global, kind: &str, case: Case<'_>) -> Result<Option<String>> {
     let came = match kind {
         "lines" => lines::came(alloc, case),
         "first_lines" => lines::first(alloc, case),
         "scripts" => scripts::came(alloc, case),
-        "facts" => facts::came(alloc, case),
-        "canonical" => facts::canonical(alloc, case),
         "ranges" => ranges::came(alloc, case),
         _ => return Ok(None),
     };
