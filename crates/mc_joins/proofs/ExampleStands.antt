@@ -9,15 +9,15 @@ use Rattle.mc_flow.specs.Heap.Heap.{Region, IsAtAddresses}
 use Rattle.mc_flow.specs.Heap.Instances.{nowhere}
 use Rattle.mc_flow.specs.Heap.Parts.{Joins}
 use Rattle.mc_flow.specs.Defs.Conditions.{IsDefs}
-use Rattle.mc_flow.specs.Defs.Examples.{defs, list_id, list_def, null_rule, blocks, two_cells}
-use Rattle.mc_flow.specs.Defs.Laws.{SatFolds}
+use Rattle.mc_flow.specs.Defs.Examples.{defs, list_id, blocks, two_cells}
 use Rattle.mc_flow.specs.Defs.Meaning.{Sat}
 use Rattle.mc_state.specs.BodyLaws.{CoverMakesPredicate}
 use Rattle.mc_state.specs.CoverExamples.{at, at_seven, cell_and_list}
 use Rattle.mc_state.specs.Covers.{Cover}
 use Rattle.mc_state.specs.Stands.{EdgesMeet, Stands, StandsBy}
+use Rattle.mc_flow.proofs.DefsLemmas.SmallHeaps.{nowhere_list}
 use Rattle.mc_joins.specs.Examples.{a_cell, a_list}
-use Rattle.mc_joins.proofs.Regions.{SplitLaws, nowhere_empty, none_left, none_right}
+use Rattle.mc_joins.proofs.Regions.{SplitLaws, nowhere_empty, none_right}
 
 pub cell_stands : StandsBy defs at_seven [] (blocks two_cells) cell_and_list → StandsBy defs at_seven (Some (pos 7) ∷ []) (blocks two_cells) a_cell
 cell_stands st = record { null = st.null; kinds = st.kinds; atoms = tt; vars = (refl, tt); parts = st.parts }
@@ -47,29 +47,9 @@ cells_stand splits makes fit addresses st meets cover =
     let sat : Sat defs list_id (pos 7) [] (blocks two_cells) = subst (λ (r : Region). Sat defs list_id (pos 7) [] r) (sym whole) got.3 in
     (at_seven, list_stands splits at_seven (blocks two_cells) refl (omega (arith, ints), omega (arith, ints)) sat)
 
-pub null_stands : SplitLaws → SatFolds → Stands defs (Some (pos 0) ∷ []) nowhere a_list
-null_stands splits folds =
-    let sat : Sat defs list_id (pos 0) [] nowhere = folds defs list_id (pos 0) [] nowhere (
-      record {
-        def = list_def;
-        defined = refl;
-        rule = null_rule;
-        place = 0;
-        listed = refl;
-        names = pos 0 ∷ [];
-        kinds = ((omega (arith, ints), omega (arith, ints)), tt);
-        count = refl;
-        others = [];
-        front = refl;
-        atoms = (refl, tt);
-      },
-      nowhere,
-      nowhere,
-      none_left splits nowhere,
-      nowhere_empty,
-      nowhere_empty,
-    ) in
-    (λ n. pos 0, list_stands splits (λ n. pos 0) nowhere refl (omega (arith, ints), omega (arith, ints)) sat)
+pub null_stands : SplitLaws → Stands defs (Some (pos 0) ∷ []) nowhere a_list
+null_stands splits =
+    (λ n. pos 0, list_stands splits (λ n. pos 0) nowhere refl (omega (arith, ints), omega (arith, ints)) nowhere_list)
 
 -- there is no block where the whole has none
 left_none : (x l r : Option heap.Block) (b : heap.Block) → Joins x l r → x ≡ None → l ≡ Some b → ⊥

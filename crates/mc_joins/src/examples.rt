@@ -18,7 +18,6 @@ ghost use Rattle.mc_joins.specs.Joinings.{begun, next_pair};
 ghost use Rattle.mc_joins.specs.Steps.{after_step, after_steps, is_stuck};
 ghost use Rattle.mc_joins.specs.Whole.{result_of};
 
-use mc_flow::defs::predicates_are_bodies;
 use mc_flow::heap::parts_regroup;
 use mc_state::{body_premises, covers_are_sound, example_covers};
 
@@ -101,5 +100,4 @@ pub fn null_stands_for_join()
     ensures cell { ¬ Stands defs (Some (pos 0) ∷ []) nowhere a_cell }
 {
     parts_regroup();
-    predicates_are_bodies();
 }

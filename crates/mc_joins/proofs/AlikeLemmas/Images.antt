@@ -1,7 +1,5 @@
 -- Lists that are images of others, item by item.
-use Rattle.std.proofs.Common.{◌≡◌, ◌⊎◌, inl, inr, subst, ◌<◌, ◌≤◌, ◌+◌, ℕ, zero, suc, List, [], ◌∷◌, Some, map, length, get_or, slice_get, drop, refl, sym, ap, ap₂, ◌∙◌, arith}
-use Rattle.std.specs.List.{AllByRecursion}
-use Rattle.std.proofs.lemmas.Option.{slice_get_within, slice_get-get_or}
+use Rattle.std.proofs.Common.{◌≡◌, ◌<◌, ◌≤◌, ◌+◌, ℕ, zero, suc, List, [], ◌∷◌, Some, map, length, get_or, slice_get, drop, refl, sym, ap, ap₂, ◌∙◌, arith}
 use Rattle.std.proofs.lemmas.List.{drop_more, get_or-map, length-map}
 use Rattle.std.proofs.Math.ListN.{drop_of_length-le}
 
@@ -29,36 +27,3 @@ module _ {A B : Type 0} (g : A → B) where
   mapped_from [] i y e = absurd (cc e)
   mapped_from (x ∷ xs) zero y e = (x, refl, cc)
   mapped_from (x ∷ xs) (suc i) y e = mapped_from xs i y e
-
-pub all_at : {X : Type 0} (P : X → Type 0) (xs : List X) (i : ℕ) (x : X) → AllByRecursion P xs → slice_get xs i ≡ Some x → P x
-all_at P [] i x a e = absurd (cc e)
-all_at {X} P (y ∷ xs) zero x a e = let q : y ≡ x = cc in rw q at a.0
-all_at P (y ∷ xs) (suc i) x a e = all_at P xs i x a.1 e
-
--- ---- what holds of each item of a list, as a loop over an equal list finds
-
-module _ {X : Type 0} (P : X → Type 0) (ys xs : List X) (same : ys ≡ xs) where
-  at_own : (i : ℕ) (d : X) → i < length ys → slice_get ys i ≡ Some (get_or ys i d)
-  at_own i d l = slice_get-get_or ys i d l
-
-  pub each_here : (i : ℕ) (d : X) → i < length ys → ((k : ℕ) (x : X) → slice_get xs k ≡ Some x → P x) → P (get_or ys i d)
-  each_here i d l all = all i (get_or ys i d) (subst (λ (z : List X). slice_get z i ≡ Some (get_or ys i d)) same (at_own i d l))
-
-  pub each_more : (i : ℕ) (d : X) → i < length ys → ((k : ℕ) → k < i → (x : X) → slice_get xs k ≡ Some x → P x) → P (get_or ys i d) → (k : ℕ) → k < i + 1 → (x : X) → slice_get xs k ≡ Some x → P x
-  each_more i d l before here k less x e = elim (split k less) [
-    | inl m ↦ before k m x e
-    | inr q ↦
-        let own : slice_get xs i ≡ Some (get_or ys i d) = subst (λ (z : List X). slice_get z i ≡ Some (get_or ys i d)) same (at_own i d l) in
-        let there : slice_get xs i ≡ Some x = subst (λ (z : ℕ). slice_get xs z ≡ Some x) q e in
-        let one : get_or ys i d ≡ x = cc (own, there) in
-        subst P one here
-  ]
-    where
-      split : (k : ℕ) → k < i + 1 → (k < i) ⊎ (k ≡ i)
-      split k l = grind arith
-
-  pub each_all : (i : ℕ) → length ys ≤ i → ((k : ℕ) → k < i → (x : X) → slice_get xs k ≡ Some x → P x) → (k : ℕ) (x : X) → slice_get xs k ≡ Some x → P x
-  each_all i past before k x e =
-      let w = slice_get_within xs k x e in
-      let long : length ys ≡ length xs = ap length same in
-      before k (omega arith) x e

@@ -1,5 +1,5 @@
 -- Sameness, from what the written atoms say.
-use Rattle.std.proofs.Common.{◌≡◌, ◌⊎◌, ◌↔◌, inl, inr, ℕ, zero, suc, List, [], ◌∷◌, Some, Option, map, slice_get, Bool, refl, sym, ap, ap₂, subst, ◌∙◌, pos}
+use Rattle.std.proofs.Common.{◌≡◌, ◌⊎◌, inl, inr, ℕ, zero, suc, List, [], ◌∷◌, Some, map, slice_get, refl, sym, ap, ap₂, subst, ◌∙◌, pos}
 use Rattle.std.specs.Prelude.{option_map}
 use Rattle.std.specs.List.{AllByRecursion}
 use Rattle.mc_base.specs.declared.ids.EdgeId.{EdgeId}
@@ -10,7 +10,7 @@ use Rattle.mc_base.specs.Atoms.{nodes_of_atom, moved_atom}
 use Rattle.mc_base.specs.Nodes.{null, moved}
 use Rattle.mc_state.specs.declared.graph.edge.Edge.{Edge}
 use Rattle.mc_state.specs.declared.graph.edge.Edge.TheVariants.{Block, Ind, Seg}
-use Rattle.mc_state.specs.Graph.Edges.{nodes_of as edge_nodes, moved_edge}
+use Rattle.mc_state.specs.Graph.Edges.{nodes_of as edge_nodes}
 use Rattle.mc_state.specs.Graph.Graph.{Edges, block_starts}
 use Rattle.mc_pure.specs.Pure.{Kinds, Pure, IsNode, Base, kind_of}
 use Rattle.mc_pure.specs.Pure as pure
@@ -20,10 +20,11 @@ use Rattle.mc_pure.specs.Derived as derived
 use Rattle.mc_state.specs.State.{State, pure_of}
 use Rattle.mc_state.specs.Facts.{Derives}
 use Rattle.mc_state.specs.Fits.{AreNodes, IsBounded}
-use Rattle.mc_joins.specs.Same.Same.{IsRenaming, AreSameUnder}
+use Rattle.mc_joins.specs.Same.Same.{IsRenaming}
 use Rattle.mc_joins.specs.Same.Laws.{FollowsRenamed, FalseRenamed}
-use Rattle.mc_joins.specs.Alike.Alike.{AreSameBy, way_back, Goes, AllGo, IsBijection, moved_edges, AreKnown}
-use Rattle.mc_joins.proofs.AlikeLemmas.Images.{mapped_at, mapped_from, all_at}
+use Rattle.mc_joins.specs.Alike.Alike.{AreSameBy, way_back, IsBijection, moved_edges, AreKnown}
+use Rattle.mc_joins.proofs.AlikeLemmas.Images.{mapped_at, mapped_from}
+use Rattle.mc_state.proofs.Lists.{all_at}
 use Rattle.mc_joins.proofs.AlikeLemmas.Places.{kind_place, place_kind, node_at, place_of, origin_first, node_goes, kind_goes, renaming_from}
 
 -- ---- starts of blocks
@@ -183,9 +184,9 @@ parts_from_same f s t bounded other (back, same) = record {
   whole = same.whole;
   env = same.env;
   edges = same.edges;
-  there = λ place a e. (same.derived a (all_at (λ (x : Atom). AreNodes s.kinds (nodes_of_atom x)) s.atoms place a bounded.atoms e)).0 (inl (derived.Follows.base (pure.Base.written place e)));
+  there = λ place a e. (same.derived a (all_at (λ (x : Atom). AreNodes s.kinds (nodes_of_atom x)) s.atoms place a e bounded.atoms)).0 (inl (derived.Follows.base (pure.Base.written place e)));
   again = λ place a e.
-      let is = all_at (λ (x : Atom). AreNodes t.kinds (nodes_of_atom x)) t.atoms place a other.atoms e in
+      let is = all_at (λ (x : Atom). AreNodes t.kinds (nodes_of_atom x)) t.atoms place a e other.atoms in
       let q = again_from f s t b in
       (same.derived (moved_atom (way_back f s) a) (atom_goes (way_back f s) f t.kinds s.kinds q a is)).1
       (subst (Derives t) (sym (atom_back (way_back f s) f t.kinds s.kinds q a is)) (inl (derived.Follows.base (pure.Base.written place e))));

@@ -1,5 +1,5 @@
 -- What fits piece by piece is well formed.
-use Rattle.std.proofs.Common.{◌≡◌, ◌≢◌, ◌<◌, ◌≤◌, ◌+◌, ℕ, zero, suc, List, [], ◌∷◌, ◌++◌, Option, Some, None, map, length, get_or, slice_get, refl, sym, ap, subst, ◌∙◌, arith}
+use Rattle.std.proofs.Common.{◌≡◌, ◌<◌, ◌≤◌, ◌+◌, ℕ, zero, suc, List, [], ◌∷◌, ◌++◌, Option, Some, None, map, length, slice_get, refl, subst, arith}
 use Rattle.std.specs.List.{AllByRecursion}
 use Rattle.mc_base.specs.declared.ids.EdgeId.{EdgeId}
 use Rattle.mc_base.specs.declared.ids.NodeId.{NodeId}
@@ -13,16 +13,15 @@ use Rattle.mc_flow.specs.declared.defs.shapes.StructInfo.{StructInfo}
 use Rattle.mc_state.specs.declared.graph.edge.Edge.{Edge}
 use Rattle.mc_state.specs.declared.graph.edge.Edge.TheVariants.{Block, Ind, Seg}
 use Rattle.mc_state.specs.Graph.Edges.{known_nodes, nodes_of}
-use Rattle.mc_state.specs.Graph.Graph.{Edges, numbered, IdsAscend}
-use Rattle.mc_pure.specs.Pure.{Kinds, IsNode, IsWellFormed}
+use Rattle.mc_state.specs.Graph.Graph.{numbered, IdsAscend}
+use Rattle.mc_pure.specs.Pure.{Kinds, IsWellFormed}
 use Rattle.mc_state.specs.declared.raw_state.NodeKind.{NodeKind}
 use Rattle.mc_state.specs.declared.raw_state.NodeKind.TheVariants.{Zero, Int, Ptr}
 use Rattle.mc_state.specs.declared.raw_state.RawState.{RawState}
-use Rattle.mc_state.specs.State.{State}
-use Rattle.mc_state.specs.Fits.{NodesAscend, AreNodes, HaveKinds, MayHaveKinds, EdgeFitsDefs, EdgeFitsStructs, IsBounded, IsWellMade}
-use Rattle.mc_state.specs.RawStates.{kinds_from, state_of, BeginsWithZero, IsWellFormedRaw}
-use Rattle.mc_state_io.specs.Raw.Raw.{AllEdgesFit, AllAtomsFit, AllAreThere, PiecesFit}
-use Rattle.mc_state_io.proofs.RawLemmas.Items.{all_at, all_from}
+use Rattle.mc_state.specs.Fits.{NodesAscend, AreNodes, HaveKinds, MayHaveKinds, EdgeFitsDefs, EdgeFitsStructs}
+use Rattle.mc_state.specs.RawStates.{kinds_from, BeginsWithZero, IsWellFormedRaw}
+use Rattle.mc_state_io.specs.Raw.Raw.{AllEdgesFit, AllAreThere, PiecesFit}
+use Rattle.mc_state.proofs.Lists.{all_at, all_places}
 
 -- ---- numbers
 
@@ -104,9 +103,9 @@ well_formed defs vars structs raw b f = record {
       ids = ids_ascend 0 raw.edges (length raw.edges) (omega arith);
       vars = known_there (kinds_from 0 raw.kinds) (map (λ (x : VarInfo). x.kind) vars) raw.vars f.vars_fit;
       edges = numbered_all (λ (e : Edge). AreNodes (kinds_from 0 raw.kinds) (nodes_of e)) 0 raw.edges (edges_there (kinds_from 0 raw.kinds) defs structs raw.edges f.edges_fit);
-      atoms = all_from (λ (a : Atom). AreNodes (kinds_from 0 raw.kinds) (nodes_of_atom a)) raw.atoms (λ i a e. atom_there (kinds_from 0 raw.kinds) a (f.atoms_fit i a e));
+      atoms = all_places (λ (a : Atom). AreNodes (kinds_from 0 raw.kinds) (nodes_of_atom a)) raw.atoms (λ i a e. atom_there (kinds_from 0 raw.kinds) a (f.atoms_fit i a e));
     };
-    atoms = all_from (IsWellFormed (kinds_from 0 raw.kinds)) raw.atoms f.atoms_fit;
+    atoms = all_places (IsWellFormed (kinds_from 0 raw.kinds)) raw.atoms f.atoms_fit;
     fits_defs = numbered_all (EdgeFitsDefs defs (kinds_from 0 raw.kinds)) 0 raw.edges (λ i e q. (f.edges_fit i e q).0);
     fits_program = record {
       vars_fit = f.vars_fit;
@@ -122,7 +121,7 @@ pieces_fit defs vars structs raw w = record {
     numbered_at (EdgeFitsDefs defs (kinds_from 0 raw.kinds)) 0 raw.edges w.made.fits_defs i e q,
     numbered_at (EdgeFitsStructs structs (kinds_from 0 raw.kinds)) 0 raw.edges w.made.fits_program.blocks_fit i e q,
   );
-  atoms_fit = λ i a e. all_at (IsWellFormed (kinds_from 0 raw.kinds)) raw.atoms i a w.made.atoms e;
+  atoms_fit = λ i a e. all_at (IsWellFormed (kinds_from 0 raw.kinds)) raw.atoms i a e w.made.atoms;
 }
 
 pub vars_there : (defs : List Def) (vars : List VarInfo) (structs : List StructInfo) (own : Kinds) (raw : RawState) → PiecesFit defs vars structs own raw → AreNodes own (known_nodes raw.vars)

@@ -6,5 +6,5 @@ pub returns : goal.returns
 returns c =
     let p = c.parts_regroup.ensures in
     let splits : SplitLaws = record { commutes = p.commutes; left = p.left; right = p.right; drops_empty = p.drops_empty; adds_empty = p.adds_empty } in
-    let stands = null_stands splits c.predicates_are_bodies.ensures.folds in
+    let stands = null_stands splits in
     record { list = stands; joined = stands; cell = no_cell }

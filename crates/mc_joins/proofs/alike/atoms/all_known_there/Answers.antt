@@ -1,9 +1,9 @@
-use Rattle.std.proofs.Common.{◌≡◌, ◌<◌, ◌≤◌, length, true, false, refl, sym, subst, arith}
+use Rattle.std.proofs.Common.{◌≡◌, true, false, refl, sym, subst, arith}
 use Rattle.mc_base.specs.declared.plain.Atom.{Atom}
 use Rattle.mc_base.specs.Atoms.{moved_atom}
 use Rattle.mc_state.specs.Facts.{Derives}
 use Rattle.mc_pure_ops.specs.Renaming.Images.{image}
-use Rattle.mc_joins.proofs.AlikeLemmas.Images.{each_here, each_more, each_all}
+use Rattle.mc_state.proofs.Lists.{each_here, each_more, each_all}
 use Rattle.mc_joins.proofs.alike.atoms.all_known_there.Goals as goal
 
 pub returns-then-not-knows : goal.returns-then-not-knows

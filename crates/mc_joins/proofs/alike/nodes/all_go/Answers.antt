@@ -1,8 +1,8 @@
-use Rattle.std.proofs.Common.{◌≡◌, ◌<◌, ◌≤◌, length, true, false, refl, arith}
+use Rattle.std.proofs.Common.{◌≡◌, true, false, refl, arith}
 use Rattle.mc_base.specs.declared.ids.NodeId.{NodeId}
 use Rattle.mc_pure_ops.specs.Renaming.Images.{image}
 use Rattle.mc_joins.specs.Alike.Alike.{way_back, Goes}
-use Rattle.mc_joins.proofs.AlikeLemmas.Images.{each_here, each_more, each_all}
+use Rattle.mc_state.proofs.Lists.{each_here, each_more, each_all}
 use Rattle.mc_joins.proofs.alike.nodes.all_go.Goals as goal
 
 pub returns-then-not-goes : goal.returns-then-not-goes

@@ -1,7 +1,7 @@
-use Rattle.std.proofs.Common.{◌≡◌, ◌<◌, ◌≤◌, length, true, false, refl, arith}
+use Rattle.std.proofs.Common.{◌≡◌, true, false, refl, arith}
 use Rattle.mc_base.specs.declared.ids.NodeId.{NodeId}
 use Rattle.mc_joins.specs.Alike.Tidy.{CanBeMerged}
-use Rattle.mc_joins.proofs.AlikeLemmas.Images.{each_here, each_more, each_all}
+use Rattle.mc_state.proofs.Lists.{each_here, each_more, each_all}
 use Rattle.mc_joins.proofs.alike.tidy.none_merges_with.Goals as goal
 
 pub returns-then-can_be_merged : goal.returns-then-can_be_merged

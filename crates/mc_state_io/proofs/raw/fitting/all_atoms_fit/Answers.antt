@@ -1,7 +1,7 @@
-use Rattle.std.proofs.Common.{◌≡◌, ◌<◌, ◌≤◌, length, true, false, refl, arith}
+use Rattle.std.proofs.Common.{◌≡◌, true, false, refl, arith}
 use Rattle.mc_base.specs.declared.plain.Atom.{Atom}
 use Rattle.mc_pure.specs.Pure.{IsWellFormed}
-use Rattle.mc_state_io.proofs.RawLemmas.Items.{each_here, each_more, each_all}
+use Rattle.mc_state.proofs.Lists.{each_here, each_more, each_all}
 use Rattle.mc_state_io.proofs.raw.fitting.all_atoms_fit.Goals as goal
 
 pub returns-then-not-allows : goal.returns-then-not-allows

@@ -1,7 +1,8 @@
-use Rattle.std.proofs.Common.{◌≡◌, ◌<◌, ◌≤◌, length, true, false, refl, arith}
+use Rattle.std.proofs.Common.{◌≡◌, true, false, refl, arith}
 use Rattle.mc_state.specs.declared.graph.edge.Edge.{Edge}
 use Rattle.mc_state_io.specs.Raw.Raw.{EdgeFits}
-use Rattle.mc_state_io.proofs.RawLemmas.Items.{named_here, named_more, each_all}
+use Rattle.mc_state.proofs.Lists.{each_all}
+use Rattle.mc_state_io.proofs.RawLemmas.Items.{named_here, named_more}
 use Rattle.mc_state_io.proofs.raw.fitting.all_edges_fit.Goals as goal
 
 pub returns-then-not-edge_fits : goal.returns-then-not-edge_fits

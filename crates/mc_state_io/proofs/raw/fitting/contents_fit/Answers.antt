@@ -1,7 +1,8 @@
-use Rattle.std.proofs.Common.{◌≡◌, ◌<◌, ◌≤◌, length, true, false, refl, arith}
+use Rattle.std.proofs.Common.{◌≡◌, true, false, refl, arith}
 use Rattle.mc_flow.specs.declared.defs.rules.Def.{Def}
 use Rattle.mc_state_io.specs.Raw.Raw.{RulesFit}
-use Rattle.mc_state_io.proofs.RawLemmas.Items.{named_here, named_more, each_all}
+use Rattle.mc_state.proofs.Lists.{each_all}
+use Rattle.mc_state_io.proofs.RawLemmas.Items.{named_here, named_more}
 use Rattle.mc_state_io.proofs.raw.fitting.contents_fit.Goals as goal
 
 pub returns-then-not-rules_fit : goal.returns-then-not-rules_fit
