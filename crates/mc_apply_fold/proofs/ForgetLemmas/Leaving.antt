@@ -1,6 +1,6 @@
 -- The kinds of the nodes that are left.
-use Rattle.std.proofs.Common.{◌≡◌, ◌≢◌, ◌<◌, ◌≤◌, ◌+◌, ◌-◌, ℕ, zero, suc, List, [], ◌∷◌, ◌++◌, Bool, true, false, Option, Some, None, nat_eq, nat_lt, get_or, length, map, take, refl, sym, ◌∙◌, ap, subst, inl, inr, arith}
-use Rattle.std.specs.Prelude.{if◌then◌else◌, cond}
+use Rattle.std.proofs.Common.{◌≡◌, ◌≢◌, ◌<◌, ◌≤◌, ◌+◌, ◌-◌, ℕ, zero, suc, List, [], ◌∷◌, ◌++◌, Bool, true, false, Some, None, nat_eq, nat_lt, get_or, length, map, take, refl, sym, ◌∙◌, ap, subst, inl, inr, arith}
+use Rattle.std.specs.Prelude.{if◌then◌else◌}
 use Rattle.std.specs.List.{AllByRecursion}
 use Rattle.std.proofs.lemmas.Bool.Decides.{nat_tests}
 use Rattle.mc_base.specs.declared.ids.NodeId.{NodeId}
@@ -12,7 +12,6 @@ use Rattle.mc_pure.specs.Nodes.{RiseFrom, with_kind}
 use Rattle.mc_pure.specs.Known.{with_node}
 use Rattle.mc_pure.specs.Whole.{kinds_without}
 use Rattle.mc_apply_fold.specs.Forget.Left.{only_kinds, first_kinds}
-use Rattle.mc_apply_fold.proofs.ForgetLemmas.Lists.{is_yes}
 use Rattle.mc_pure.proofs.Changing.{no, number, yes}
 
 some_none : {x : Kind} → Some x ≡ None → ⊥
@@ -169,14 +168,3 @@ module _ (kinds : Kinds) (rise : RiseFrom 1 kinds) (lost : NodeId) (ns : List No
     where
       one_kind : (a b : Kind) → Some a ≡ Some b → a ≡ b
       one_kind a b e = cc
-
--- the kind of another node
-pub kept_kind : (kinds : Kinds) (lost n : NodeId) → n.0 ≢ lost.0 → kind_of (kinds_without kinds lost) n ≡ kind_of kinds n
-kept_kind [] lost n other = refl
-kept_kind (k ∷ kinds) lost n other = at (kept_kind kinds lost n other) (nat_eq k.0.0 lost.0) refl
-  where
-    at : kind_of (kinds_without kinds lost) n ≡ kind_of kinds n → (b : Bool) → nat_eq k.0.0 lost.0 ≡ b → kind_of (if b then kinds_without kinds lost else k ∷ kinds_without kinds lost) n ≡ (if nat_eq k.0.0 n.0 then Some k.1 else kind_of kinds n)
-    at rest true e =
-        let same = is_yes k.0.0 lost.0 e in
-        rw (no k.0.0 n.0 (λ f. other (sym f ∙ same))) rest
-    at rest false e = ap (λ (z : Option Kind). if nat_eq k.0.0 n.0 then Some k.1 else z) rest

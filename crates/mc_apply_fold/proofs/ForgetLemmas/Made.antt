@@ -1,72 +1,34 @@
 -- What is written where a node is forgotten, and what it makes of a state.
-use Rattle.std.proofs.Common.{◌≡◌, ◌≢◌, ◌↔◌, inl, inr, ℕ, zero, suc, ◌+◌, List, [], ◌∷◌, ◌++◌, Bool, true, false, Some, nat_eq, slice_get, Contains, refl, sym, ◌∙◌, ap, subst, arith}
+use Rattle.std.proofs.Common.{◌≡◌, ◌≢◌, ◌↔◌, inl, inr, ℕ, zero, suc, List, [], ◌∷◌, Bool, true, false, Some, nat_eq, slice_get, Contains, refl, sym, ◌∙◌, ap, subst, arith}
 use Rattle.std.specs.Prelude.{if◌then◌else◌}
 use Rattle.std.specs.List.{AllByRecursion}
 use Rattle.mc_base.specs.declared.ids.EdgeId.{EdgeId}
 use Rattle.mc_base.specs.declared.ids.NodeId.{NodeId}
 use Rattle.mc_base.specs.declared.plain.Atom.{Atom}
-use Rattle.mc_base.specs.declared.plain.Atom.TheVariants.{Eq, Ne, In}
-use Rattle.mc_base.specs.Atoms.{nodes_of_atom}
 use Rattle.mc_base.specs.Nodes.{null}
 use Rattle.mc_state.specs.declared.graph.edge.Edge.{Edge}
 use Rattle.mc_state.specs.declared.graph.edge.Edge.TheVariants.{Block, Ind, Seg}
 use Rattle.mc_state.specs.Graph.Edges.{nodes_of, known_nodes}
 use Rattle.mc_state.specs.Graph.Graph.{Edges, block_starts}
 use Rattle.mc_pure.specs.Classes.{HasNormalForm, NormalSaysAll}
-use Rattle.mc_pure.specs.Derived.{Follows, base, IsFalse as IsFalsePure}
+use Rattle.mc_pure.specs.Derived.{Follows, IsFalse as IsFalsePure}
 use Rattle.mc_pure.specs.Known.{IsFit}
 use Rattle.mc_pure.specs.Pure.{Pure, Kinds, IsNode, IsWellFormed, written}
-use Rattle.mc_pure.specs.Whole.{kinds_without, IsWholeList}
-use Rattle.mc_pure_ops.specs.Canon.Forgotten.{IsForgotten, IsForgottenOrFalse, without_node}
-use Rattle.mc_pure_ops.specs.Canon.Left.{LeavesOut}
+use Rattle.mc_pure.specs.Whole.{kinds_without}
+use Rattle.mc_pure_ops.specs.Canon.Forgotten.{IsForgotten, IsForgottenOrFalse}
 use Rattle.mc_state.specs.State.{State, pure_of}
-use Rattle.mc_state.specs.Facts.{IsFalse, IsUnnamed, Derives}
-use Rattle.mc_state.specs.Fits.{AreNodes, IsBounded}
+use Rattle.mc_state.specs.Facts.{IsFalse, IsUnnamed}
+use Rattle.mc_state.specs.Fits.{IsBounded}
 use Rattle.mc_symbolic.specs.Starts.{how_many, HaveSameNodes}
-use Rattle.mc_rules_logic.specs.Fold.Changed.{Forgets, ForgetsNode, IsListWithout, alone, left_over}
+use Rattle.mc_rules_logic.specs.Fold.Changed.{Forgets, ForgetsNode, IsListWithout, left_over}
 use Rattle.mc_rules_logic.specs.Fold.Laws.{ForgetIsDetermined}
 use Rattle.mc_rules_logic.specs.Fold.MadeLaws.{ForgetStaysMade}
 use Rattle.mc_apply_fold.specs.Forget.Left.{IsMade, only_kinds, with_atoms, with_starts}
-use Rattle.mc_apply_fold.proofs.ForgetLemmas.Lists.{among_here, all_places}
-use Rattle.mc_apply_fold.proofs.ForgetLemmas.Leaving.{kept_kind}
+use Rattle.mc_state.proofs.Lists.{all_places}
+use Rattle.mc_pure_ops.proofs.CanonLemmas.Others.{node_without}
+use Rattle.mc_rules_logic.proofs.FoldLemmas.Ordered.{among_same}
+use Rattle.mc_rules_logic.proofs.ListedLemmas.Writing.{forgets as left_of}
 use Rattle.mc_pure.proofs.Changing.{no, number, same_node, yes}
-use Rattle.mc_rules_logic.proofs.FoldLemmas.Ordered.{among_cases, among_none}
-
--- ---- atoms that leave a node out
-
-one_of : (a : NodeId) (n : NodeId) → (a ≢ n) → Contains (a ∷ []) n → ⊥
-one_of a n other c = elim (among_cases a [] n c) [ inl e ↦ other e | inr d ↦ among_none n d ]
-
-two_of : (a b n : NodeId) → (a ≢ n) → (b ≢ n) → Contains (a ∷ b ∷ []) n → ⊥
-two_of a b n p q c = elim (among_cases a (b ∷ []) n c) [ inl e ↦ p e | inr d ↦ one_of b n q d ]
-
-second_of : (a b n : NodeId) → b ≡ n → Contains (a ∷ b ∷ []) n
-second_of a b n e = (1, omega arith, e)
-
-not_named : (n : NodeId) (f : Atom) → LeavesOut (Some n) f → Contains (nodes_of_atom f) n → ⊥
-not_named n (Eq a b c) h = two_of a b n h.0 h.1
-not_named n (Ne a b c) h = two_of a b n h.0 h.1
-not_named n (In a lo hi) h = one_of a n h
-
-leaves : (n : NodeId) (f : Atom) → (Contains (nodes_of_atom f) n → ⊥) → LeavesOut (Some n) f
-leaves n (Eq a b c) h = ((λ e. h (among_here a (b ∷ []) n e)), (λ e. h (second_of a b n e)))
-leaves n (Ne a b c) h = ((λ e. h (among_here a (b ∷ []) n e)), (λ e. h (second_of a b n e)))
-leaves n (In a lo hi) h = λ e. h (among_here a [] n e)
-
--- the nodes of what follows are there
-follows_there : NormalSaysAll → (p : Pure) → HasNormalForm p → (f : Atom) → Follows p f → AreNodes p.kinds (nodes_of_atom f)
-follows_there says p n (Eq a b c) h = let x = says p n.nf n.normal (Eq a b c) h in (x.0, (x.1, tt))
-follows_there says p n (Ne a b c) h = let x = says p n.nf n.normal (Ne a b c) h in (x.0, (x.1, tt))
-follows_there says p n (In a lo hi) h = let x = says p n.nf n.normal (In a lo hi) h in (x.0, tt)
-
-kept_node : (kinds : Kinds) (lost n : NodeId) → n ≢ lost → IsNode kinds n → IsNode (kinds_without kinds lost) n
-kept_node kinds lost n other (kind, inl e) = (kind, inl e)
-kept_node kinds lost n other (kind, inr e) = (kind, inr (kept_kind kinds lost n (λ x. other (same_node n lost x)) ∙ e))
-
-kept_nodes : (kinds : Kinds) (lost : NodeId) (f : Atom) → LeavesOut (Some lost) f → AreNodes kinds (nodes_of_atom f) → AreNodes (kinds_without kinds lost) (nodes_of_atom f)
-kept_nodes kinds lost (Eq a b c) h n = (kept_node kinds lost a h.0 n.0, (kept_node kinds lost b h.1 n.1.0, tt))
-kept_nodes kinds lost (Ne a b c) h n = (kept_node kinds lost a h.0 n.0, (kept_node kinds lost b h.1 n.1.0, tt))
-kept_nodes kinds lost (In a lo hi) h n = (kept_node kinds lost a h n.0, tt)
 
 -- ---- blocks
 
@@ -77,7 +39,7 @@ is_it n x = nat_eq x.0 n.0
 none_starts : (n : NodeId) (es : Edges) → ((place : ℕ) (id : EdgeId) (e : Edge) → slice_get es place ≡ Some (id, e) → Contains (nodes_of e) n → ⊥) → how_many (is_it n) (block_starts es) ≡ 0
 none_starts n [] f = refl
 none_starts n ((id, Block at shape fields) ∷ es) f =
-    rw (no at.0 n.0 (λ x. f 0 id (Block at shape fields) refl (among_here at (known_nodes fields) n (same_node at n x))))
+    rw (no at.0 n.0 (λ x. f 0 id (Block at shape fields) refl (among_same at (known_nodes fields) n (same_node at n x))))
     (none_starts n es (λ place i e is. f (suc place) i e is))
 none_starts n ((id, Ind at pred args) ∷ es) f = none_starts n es (λ place i e is. f (suc place) i e is)
 none_starts n ((id, Seg at args pred «end» ends) ∷ es) f = none_starts n es (λ place i e is. f (suc place) i e is)
@@ -97,7 +59,7 @@ not_there n (y ∷ ys) none (suc i) x e same = not_there n ys (at (nat_eq y.0 n.
 
 starts_left : (s : State) (k : Pure) (n : NodeId) → k.kinds ≡ s.kinds → IsFit k → HaveSameNodes k.starts (block_starts s.graph.edges) → IsUnnamed n s → AllByRecursion (IsNode (kinds_without k.kinds n)) k.starts
 starts_left s k n kinds fit same unnamed =
-    all_places (IsNode (kinds_without k.kinds n)) k.starts (λ i x e. kept_node k.kinds n x (not_there n k.starts (same (is_it n) ∙ none_starts n s.graph.edges unnamed.edges) i x e) (fit.starts i x e))
+    all_places (IsNode (kinds_without k.kinds n)) k.starts (λ i x e. node_without k.kinds n x (fit.starts i x e) (not_there n k.starts (same (is_it n) ∙ none_starts n s.graph.edges unnamed.edges) i x e))
 
 -- ---- the state that is left
 
@@ -107,34 +69,8 @@ module _ (s : State) (k : Pure) (node : NodeId) (atoms : List Atom) (kinds : k.k
   abbrev after : State
   after = left_over s node atoms
 
-  is_alone : without_node k node atoms ≡ alone after
-  is_alone = ap (λ (z : Kinds). let p : Pure = record { kinds = kinds_without z node; written = atoms; starts = [] } in p) kinds
-
-  named_at : (place : ℕ) (a : Atom) → slice_get atoms place ≡ Some a → AreNodes after.kinds (nodes_of_atom a)
-  named_at place a e =
-      let h = (f.same a).0 (base (written place e)) in
-      subst (λ (z : Kinds). AreNodes (kinds_without z node) (nodes_of_atom a)) kinds (kept_nodes k.kinds node a h.1 (follows_there says k form a h.0))
-
-  derived_to : (a : Atom) → Follows (alone after) a → Derives s a × (Contains (nodes_of_atom a) node → ⊥)
-  derived_to a h =
-      let g = (f.same a).0 (subst (λ (p : Pure). Follows p a) (sym is_alone) h) in
-      (inl ((follows a).0 g.0), not_named node a g.1)
-
-  derived_from : (a : Atom) → Derives s a → (Contains (nodes_of_atom a) node → ⊥) → Follows (alone after) a
-  derived_from a (inl h) none = subst (λ (p : Pure). Follows p a) is_alone ((f.same a).1 ((follows a).1 h, leaves node a none))
-  derived_from a (inr h) none = absurd (consistent h)
-
   forgets : Forgets node s after
-  forgets = record {
-    env = refl;
-    graph = refl;
-    next = refl;
-    whole = refl;
-    kinds = refl;
-    named = all_places (λ (a : Atom). AreNodes after.kinds (nodes_of_atom a)) atoms named_at;
-    derived = λ a. (derived_to a, λ h. derived_from a h.0 h.1);
-    listed = subst (λ (p : Pure). IsWholeList p atoms) is_alone f.listed;
-  }
+  forgets = left_of says s k kinds follows form consistent node atoms f
 
   rule : ForgetsNode node s (after ∷ [])
   rule = record { consistent = consistent; there = there; not_null = not_null; unnamed = unnamed; after = after; forgets = forgets; gives = refl }

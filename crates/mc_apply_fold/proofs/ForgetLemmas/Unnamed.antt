@@ -9,7 +9,8 @@ use Rattle.mc_state.specs.Graph.Graph.{Edges}
 use Rattle.mc_state.specs.State.{State}
 use Rattle.mc_state.specs.Facts.{IsUnnamed}
 use Rattle.mc_rules_logic.specs.Fold.ChangeJudges.{is_listed, is_unnamed}
-use Rattle.mc_apply_fold.proofs.ForgetLemmas.Lists.{is_yes, among_here}
+use Rattle.mc_apply_fold.proofs.ForgetLemmas.Lists.{is_yes}
+use Rattle.mc_rules_logic.proofs.FoldLemmas.Ordered.{among_same}
 use Rattle.mc_pure.proofs.Changing.{number, same_node, yes}
 use Rattle.mc_rules_logic.proofs.FoldLemmas.Ordered.{among_cases, among_none, among_there}
 
@@ -38,7 +39,7 @@ module _ (n : NodeId) where
   listed_from (m ∷ ns) e = at (listed_from ns) (nat_eq m.0 n.0) refl e
     where
       at : (is_listed n ns ≡ true → Contains ns n) → (b : Bool) → nat_eq m.0 n.0 ≡ b → (b || is_listed n ns) ≡ true → Contains (m ∷ ns) n
-      at rest true is e = among_here m ns n (same_node m n (is_yes m.0 n.0 is))
+      at rest true is e = among_same m ns n (same_node m n (is_yes m.0 n.0 is))
       at rest false is e = among_there m ns n (rest e)
 
   listed_to : (ns : List NodeId) → Contains ns n → is_listed n ns ≡ true

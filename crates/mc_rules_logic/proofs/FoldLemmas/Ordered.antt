@@ -18,6 +18,9 @@ module _ {X : Type 0} where
   pub among_here : (x : X) (xs : List X) → Contains (x ∷ xs) x
   among_here x xs = (0, omega arith, refl)
 
+  pub among_same : (x : X) (xs : List X) (y : X) → x ≡ y → Contains (x ∷ xs) y
+  among_same x xs y e = (0, omega arith, e)
+
   pub among_there : (x : X) (xs : List X) (y : X) → Contains xs y → Contains (x ∷ xs) y
   among_there x xs y c = let less = c.1 in (suc c.0, omega arith, c.2)
 

@@ -23,7 +23,9 @@ use Rattle.mc_pure_ops.specs.Canon.Order.{GivesAtMost}
 use Rattle.mc_pure_ops.proofs.CanonLemmas.Forgets.{forgotten_list}
 use Rattle.mc_pure_ops.proofs.CanonLemmas.Heirs.{heir_same, heir_other, heir_kept, heir_first, heir_nearer, none_below, next_below, is_left_out}
 use Rattle.mc_pure_ops.proofs.CanonLemmas.Moving.{apart_to, apart_from, gives_first, gives_second, pair_found, no_first, no_second}
-use Rattle.mc_pure_ops.proofs.CanonLemmas.Nodes.{decide, node_there, node_listed, place_kept, place_heir, place_none}
+use Rattle.mc_pure_ops.proofs.CanonLemmas.Nodes.{node_there, place_kept, place_heir, place_none}
+use Rattle.mc_pure.proofs.Changing.{decide}
+use Rattle.mc_pure.proofs.Placing.{node_place}
 use Rattle.mc_pure_ops.proofs.CanonLemmas.Plain.{range_of}
 use Rattle.mc_pure_ops.proofs.CanonLemmas.Single.{null_range, lost_range, no_kind_range, wide_range, narrow_range, lost_class, no_class, null_class, self_class, other_class}
 use Rattle.mc_pure_ops.proofs.CanonLemmas.Taken.{starts_there, node_at, listed_at, itself_none, pair_of_places}
@@ -282,7 +284,7 @@ module _ (law : NormalSaysAll) (p : Pure) (true_p : IsFalse p → ⊥) (form : H
   -- ---- of each node
 
   range_node : (f : Atom) → IsRangeLeft p (Some lost) f → OfSome (OfNode (IsRangeLeft p (Some lost))) nodes f
-  range_node (In a lo hi) k = (a, node_listed p.kinds a (k.0.0, inr k.0.2), (k, refl))
+  range_node (In a lo hi) k = (a, node_place p.kinds a (k.0.0, inr k.0.2), (k, refl))
   range_node (Eq a b c) k = absurd k.0
   range_node (Ne a b c) k = absurd k.0
 
@@ -292,7 +294,7 @@ module _ (law : NormalSaysAll) (p : Pure) (true_p : IsFalse p → ⊥) (form : H
       (listed_addable (OfNode (IsRangeLeft p (Some lost))) nodes (λ k a e. let s = range_choice a (node_there p.kinds k a e) in at_most_addable (OfNode (IsRangeLeft p (Some lost)) a) s.0 s.1))
 
   class_node : (f : Atom) → IsClassLeft p (Some lost) f → OfSome (OfNode (IsClassLeft p (Some lost))) nodes f
-  class_node (Eq a b c) k = (a, node_listed p.kinds a k.2, (k, refl))
+  class_node (Eq a b c) k = (a, node_place p.kinds a k.2, (k, refl))
   class_node (In a lo hi) k = absurd k
   class_node (Ne a b c) k = absurd k
 
