@@ -1,4 +1,7 @@
 // Instructions, each with the points that may follow it.
+ghost use Rattle.std.specs.Prelude.{◌≡◌, ◌++◌, None, option_to_list};
+ghost use Rattle.mc_flow.specs.Valid.{targets};
+
 use mc_base::{Items, PointId, PredId, StructId, VarId};
 
 /// What an instruction works on: a variable's value or a constant. Null is the constant 0.
@@ -47,4 +50,31 @@ pub enum Instr {
     End,
     /// Faults.
     Fail,
+}
+
+impl Instr {
+    /// The points that may follow: none, one, or the two of a test.
+    pub fn targets(&self) -> (Option<PointId>, Option<PointId>)
+        ensures listed { option_to_list result.0 ++ option_to_list result.1 ≡ targets self.now }
+        ensures one_first { result.0 ≡ None → result.1 ≡ None }
+    {
+        match self {
+            Instr::End | Instr::Fail => (None, None),
+            Instr::TestEq(_, _, yes, no) | Instr::TestLe(_, _, yes, no) => (Some(*yes), Some(*no)),
+            Instr::Skip(next)
+            | Instr::Copy(_, _, next)
+            | Instr::Undef(_, next)
+            | Instr::Input(_, next)
+            | Instr::Add(_, _, _, next)
+            | Instr::Sub(_, _, _, next)
+            | Instr::Mul(_, _, _, next)
+            | Instr::Load(_, _, _, _, next)
+            | Instr::Store(_, _, _, _, next)
+            | Instr::Malloc(_, _, next)
+            | Instr::Free(_, next)
+            | Instr::AssumeShape(_, _, _, next)
+            | Instr::AssertShape(_, _, _, next)
+            | Instr::AssertEmpty(next) => (Some(*next), None),
+        }
+    }
 }

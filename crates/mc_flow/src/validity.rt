@@ -1,5 +1,5 @@
 // Whether a flow graph with its definitions is valid.
-ghost use Rattle.std.specs.Prelude.{◌≡◌, ◌<◌, ◌↔◌, IsTrue, Some, length, option_map, slice_get, All, Contains};
+ghost use Rattle.std.specs.Prelude.{◌≡◌, ◌<◌, ◌↔◌, IsTrue, Some, length, option_map, option_to_list, slice_get, All, Contains};
 ghost use Rattle.mc_base.specs.declared.plain.Kind.{Kind as AnyKind};
 ghost use Rattle.mc_base.specs.Kinds.{InKind};
 ghost use Rattle.mc_flow.specs.Valid.{IsVar, IsOperand, IsStruct, field_kind, IsField, ArgsFit, FitsPredicate, FitsKinds, targets, IsSkip, GoesOn, PointFits, PointsFit, IsValid};
@@ -179,29 +179,20 @@ fn goes_on(flow: &Flow, at: u64, q: PointId) -> bool
     (q.0 as usize) < flow.points.len() && (at < q.0 || is_head(flow.heads.as_slice(), q))
 }
 
+fn may_follow(flow: &Flow, at: u64, next: Option<PointId>) -> bool
+    ensures { IsTrue result ↔ All (GoesOn flow.now at) (option_to_list next) }
+{
+    match next {
+        None => true,
+        Some(q) => goes_on(flow, at, q),
+    }
+}
+
 fn follows(flow: &Flow, at: u64, code: &Instr) -> bool
     ensures { IsTrue result ↔ All (GoesOn flow.now at) (targets code.now) }
 {
-    match code {
-        Instr::Skip(q)
-        | Instr::Copy(_, _, q)
-        | Instr::Undef(_, q)
-        | Instr::Input(_, q)
-        | Instr::Add(_, _, _, q)
-        | Instr::Sub(_, _, _, q)
-        | Instr::Mul(_, _, _, q)
-        | Instr::Load(_, _, _, _, q)
-        | Instr::Store(_, _, _, _, q)
-        | Instr::Malloc(_, _, q)
-        | Instr::Free(_, q)
-        | Instr::AssumeShape(_, _, _, q)
-        | Instr::AssertShape(_, _, _, q)
-        | Instr::AssertEmpty(q) => goes_on(flow, at, *q),
-        Instr::TestEq(_, _, t, f) | Instr::TestLe(_, _, t, f) => {
-            goes_on(flow, at, *t) && goes_on(flow, at, *f)
-        }
-        Instr::End | Instr::Fail => true,
-    }
+    let (next, otherwise) = code.targets();
+    may_follow(flow, at, next) && may_follow(flow, at, otherwise)
 }
 
 fn point_fits(flow: &Flow, defs: &[Def], at: u64, point: &Point) -> bool

@@ -142,31 +142,9 @@ fn add_predicate(out: &mut String, predicate: PredId) -> Result<(), NoMemory> {
     write!(out, " p{number}")
 }
 
-// The points that may follow: the first one, and the second of a test.
-fn nexts(code: &Instr) -> (Option<PointId>, Option<PointId>) {
-    match code {
-        Instr::End | Instr::Fail => (None, None),
-        Instr::TestEq(_, _, t, f) | Instr::TestLe(_, _, t, f) => (Some(*t), Some(*f)),
-        Instr::Skip(q)
-        | Instr::Copy(_, _, q)
-        | Instr::Undef(_, q)
-        | Instr::Input(_, q)
-        | Instr::Add(_, _, _, q)
-        | Instr::Sub(_, _, _, q)
-        | Instr::Mul(_, _, _, q)
-        | Instr::Load(_, _, _, _, q)
-        | Instr::Store(_, _, _, _, q)
-        | Instr::Malloc(_, _, q)
-        | Instr::Free(_, q)
-        | Instr::AssumeShape(_, _, _, q)
-        | Instr::AssertShape(_, _, _, q)
-        | Instr::AssertEmpty(q) => (Some(*q), None),
-    }
-}
-
 // The points that may follow, after an arrow.
 fn add_targets(out: &mut String, code: &Instr) -> Result<(), NoMemory> {
-    let (first, second) = nexts(code);
+    let (first, second) = code.targets();
     if let Some(point) = first {
         out.push_str(" >")?;
         add_point(out, point)?;

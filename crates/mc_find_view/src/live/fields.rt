@@ -1,6 +1,6 @@
 // Which fields are stored before they are read.
 use crate::live::Rows;
-use crate::live::moves::{next_points, set_variable};
+use crate::live::moves::set_variable;
 use mc_base::{NoMemory, StructId, VarId};
 use mc_flow::{Flow, Instr};
 use std::alloc::Global;
@@ -95,7 +95,7 @@ fn update(
     point: usize,
     code: &Instr,
 ) -> bool {
-    let (one, other) = next_points(code);
+    let (one, other) = code.targets();
     row.fill_row(0, one.is_some());
     if let Some(q) = one {
         row.keep_row(dead, q.0 as usize, 0);

@@ -1,6 +1,6 @@
 // Which variables are read later.
 use crate::live::Rows;
-use crate::live::moves::{next_points, set_variable, two_operands};
+use crate::live::moves::{set_variable, two_operands};
 use mc_base::{NoMemory, VarId};
 use mc_flow::{Flow, Instr, Operand};
 use std::alloc::Global;
@@ -58,7 +58,7 @@ fn unset(row: &mut Rows, x: VarId) {
 /// Puts what is read from a point on into its row; whether that changed.
 fn update(live: &mut Rows, row: &mut Rows, point: usize, code: &Instr) -> bool {
     row.fill_row(0, false);
-    let (one, other) = next_points(code);
+    let (one, other) = code.targets();
     if let Some(q) = one {
         row.add_row(live, q.0 as usize, 0);
     }
