@@ -22,7 +22,6 @@ pub mod Parts
 pub mod Reaching
 pub mod Refusing
 pub mod Segments
-pub mod SmallHeaps
 pub mod Standing
 pub mod WrittenOnce
 pub mod WrongFolds

@@ -1,5 +1,5 @@
 -- Steps of the small flow graph.
-use Rattle.std.proofs.Common.{negsuc, ◌≡◌, [], ◌∷◌, Option, Some, None, refl, sym, ap, arith, inl, pos}
+use Rattle.std.proofs.Common.{negsuc, ◌≡◌, [], ◌∷◌, None, refl, sym, ap, arith, inl, pos}
 use Rattle.std.specs.FinMap as map
 use Rattle.std.specs.FinMap.{gets}
 use Rattle.std.proofs.lemmas.Bool.Decides.{nat_tests}
@@ -8,12 +8,11 @@ use Rattle.mc_base.specs.declared.text.place.Place.{Place}
 use Rattle.mc_flow.specs.Runs as runs
 use Rattle.mc_flow.specs.Heap.Access.{field_at}
 use Rattle.mc_flow.specs.Heap.Choices as choice
-use Rattle.mc_flow.specs.Heap.Heap.{Block, region_of}
-use Rattle.mc_flow.specs.Heap.Parts.{Joins, IsEmpty}
-use Rattle.mc_flow.specs.Heap.Adding.{part_of}
-use Rattle.mc_flow.specs.Defs.Examples.{defs, cell_id, list_id, lenlist_id, lenlist_def, no_length_rule, blocks}
+use Rattle.mc_flow.specs.Heap.Heap.{region_of}
+use Rattle.mc_flow.specs.Defs.Examples.{defs, cell_id, list_id, blocks}
 use Rattle.mc_flow.specs.Defs.Meaning.{Sat, HoldsSomewhere}
 use Rattle.mc_flow.specs.Steps.{Step, found, put, set_to, freed_at, written}
+use Rattle.mc_flow.proofs.DefsLemmas.SmallHeaps.{no_len}
 use Rattle.mc_rules_steps.specs.Examples as ex
 use Rattle.mc_rules_steps.proofs.ExampleStates.{block_there, empty_there}
 use Rattle.mc_rules_steps.proofs.ExampleSteps.{joins_none}
@@ -73,41 +72,8 @@ equal = refl
 pub at_most : ex.Goes (ex.config 13 (pos 5)) [] (ex.config 15 (pos 5))
 at_most = refl
 
--- null is a list of length 0
-joins_empty : (o : Option Block) → o ≡ None → Joins o o o
-joins_empty None e = refl
-joins_empty (Some b) e = cc
-
-no_length : Sat defs lenlist_id (pos 0) (pos 0 ∷ []) (part_of [])
-no_length =
-    let part = part_of [] in
-    let empty : IsEmpty part = record { none = empty_there } in
-    record {
-      height = 1;
-      holds = (
-        record {
-          def = lenlist_def;
-          defined = refl;
-          rule = no_length_rule;
-          place = 0;
-          listed = refl;
-          names = pos 0 ∷ pos 0 ∷ [];
-          kinds = ((omega (arith, ints), omega (arith, ints)), ((omega (arith, ints), omega (arith, ints)), tt));
-          count = refl;
-          others = [];
-          front = refl;
-          atoms = (refl, (refl, tt));
-        },
-        part,
-        part,
-        record { joins = λ at. joins_empty (part at) (empty_there at) },
-        empty,
-        empty,
-      );
-    }
-
 pub assume : ex.Goes (ex.config 14 (pos 5)) (choice.shape (pos 0) [] ∷ []) (ex.config_with 15 ex.t (pos 0))
-assume = (tt, no_length, refl)
+assume = (tt, no_len, refl)
 
 pub assert : Sat defs list_id (pos 0) [] (blocks []) → ex.Goes (ex.config 15 (pos 5)) [] (ex.config 16 (pos 5))
 assert law =

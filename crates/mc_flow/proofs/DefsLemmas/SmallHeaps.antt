@@ -8,6 +8,7 @@ use Rattle.std.proofs.lemmas.Int.{ints}
 use mathlib.Core.Path.{fun_ext}
 use Rattle.mc_base.specs.declared.plain.Kind.TheVariants.{Int, Ptr}
 use Rattle.mc_flow.specs.Heap.Heap.{Block, Region, IsAtAddresses}
+use Rattle.mc_flow.specs.Heap.Instances.{nowhere}
 use Rattle.mc_flow.specs.Heap.Parts.{Split, IsEmpty, IsCell}
 use Rattle.mc_flow.proofs.HeapLemmas.Splits.{split_turned, split_empty, split_whole, nothing, nothing-IsEmpty, empty_heap_is_empty, insert_changes, cell_is_added}
 use Rattle.mc_flow.specs.Defs.Values.{InKinds}
@@ -27,7 +28,8 @@ cell_unique p q at b c d =
       | inr ne ↦ c.only x ne ∙ sym (d.only x ne)
     ])
 
-added : (at : ℕ) (b : Block) (es : List (ℕ × Block)) → blocks es at ≡ None → (part : Region) × Split (blocks ((at, b) ∷ es)) part (blocks es) × IsCell part at b
+-- a block at a free address is a part before the others
+pub added : (at : ℕ) (b : Block) (es : List (ℕ × Block)) → blocks es at ≡ None → (part : Region) × Split (blocks ((at, b) ∷ es)) part (blocks es) × IsCell part at b
 added at b es none = cell_is_added (blocks es) (blocks ((at, b) ∷ es)) at b none (insert_changes (finmap.from_entries es) at b)
 
 pub one_block : (at : ℕ) (b : Block) → IsCell (blocks ((at, b) ∷ [])) at b
@@ -101,6 +103,12 @@ null_height = (null_by, blocks [], blocks [], split_whole (blocks []) no_blocks,
 pub null_list : Sat defs list_id (pos 0) [] (blocks [])
 null_list = record { height = 1; holds = null_height }
 
+-- the same of the region without blocks
+pub nowhere_list : Sat defs list_id (pos 0) [] nowhere
+nowhere_list =
+    let same : blocks [] ≡ nowhere = split_empty no_blocks (split_turned (split_whole (blocks []) (record { none = λ at. refl }))) in
+    subst (λ r. Sat defs list_id (pos 0) [] r) same null_list
+
 nine_kinds : InKinds (Ptr ∷ Int ∷ Ptr ∷ []) (pos 9 ∷ pos 6 ∷ pos 0 ∷ [])
 nine_kinds = ((omega (arith, ints), omega (arith, ints)), ((omega (arith, ints), omega (arith, ints)), ((omega (arith, ints), omega (arith, ints)), tt)))
 
@@ -154,7 +162,7 @@ no_len_by =
       atoms = (refl, (refl, tt));
     }
 
-no_len : Sat defs lenlist_id (pos 0) (pos 0 ∷ []) (blocks [])
+pub no_len : Sat defs lenlist_id (pos 0) (pos 0 ∷ []) (blocks [])
 no_len = fold defs lenlist_id (pos 0) (pos 0 ∷ []) (blocks []) (no_len_by, blocks [], blocks [], split_whole (blocks []) no_blocks, no_blocks, no_blocks)
 
 seven_names : InKinds lenlist_rule.names (pos 7 ∷ pos 2 ∷ pos 5 ∷ pos 9 ∷ pos 1 ∷ [])
@@ -163,10 +171,11 @@ seven_names = ((omega (arith, ints), omega (arith, ints)), ((omega (arith, ints)
 nine_names : InKinds lenlist_rule.names (pos 9 ∷ pos 1 ∷ pos 6 ∷ pos 0 ∷ pos 0 ∷ [])
 nine_names = ((omega (arith, ints), omega (arith, ints)), ((omega (arith, ints), omega (arith, ints)), ((omega (arith, ints), omega (arith, ints)), ((omega (arith, ints), omega (arith, ints)), ((omega (arith, ints), omega (arith, ints)), tt)))))
 
+pub second_long : Sat defs lenlist_id (pos 9) (pos 1 ∷ []) (blocks second_cell)
+second_long = len_cell 9 (pos 6) (pos 0) (pos 1) (pos 0) nine_names refl (blocks second_cell) (blocks []) second_split no_len
+
 pub two_long : Sat defs lenlist_id (pos 7) (pos 2 ∷ []) (blocks two_cells)
-two_long =
-    len_cell 7 (pos 5) (pos 9) (pos 2) (pos 1) seven_names refl (blocks two_cells) (blocks second_cell) two_split
-    (len_cell 9 (pos 6) (pos 0) (pos 1) (pos 0) nine_names refl (blocks second_cell) (blocks []) second_split no_len)
+two_long = len_cell 7 (pos 5) (pos 9) (pos 2) (pos 1) seven_names refl (blocks two_cells) (blocks second_cell) two_split second_long
 
 -- ---- trees
 abbrev pub leaf_by : RuleValues defs tree_id (pos 0) []
@@ -222,11 +231,16 @@ seven_fork = ((omega (arith, ints), omega (arith, ints)), ((omega (arith, ints),
 nine_fork : InKinds tree_rule.names (pos 9 ∷ pos 0 ∷ pos 0 ∷ [])
 nine_fork = ((omega (arith, ints), omega (arith, ints)), ((omega (arith, ints), omega (arith, ints)), ((omega (arith, ints), omega (arith, ints)), tt)))
 
+-- a fork without trees
+abbrev lone_fork : List (ℕ × Block)
+lone_fork = (9, fork_with (pos 0) (pos 0)) ∷ []
+
+pub second_tree : Sat defs tree_id (pos 9) [] (blocks lone_fork)
+second_tree = left_tree 9 (pos 0) nine_fork (blocks lone_fork) (blocks []) (split_turned (split_whole (blocks lone_fork) no_blocks)) leaf
+
 pub two_tree : Sat defs tree_id (pos 7) [] (blocks two_forks)
 two_tree =
-    left_tree 7 (pos 9) seven_fork (blocks two_forks) (blocks ((9, fork_with (pos 0) (pos 0)) ∷ []))
-    (one_more 7 (fork_with (pos 9) (pos 0)) ((9, fork_with (pos 0) (pos 0)) ∷ []) (none_at_seven (fork_with (pos 0) (pos 0))))
-    (left_tree 9 (pos 0) nine_fork (blocks ((9, fork_with (pos 0) (pos 0)) ∷ [])) (blocks []) (split_turned (split_whole (blocks ((9, fork_with (pos 0) (pos 0)) ∷ [])) no_blocks)) leaf)
+    left_tree 7 (pos 9) seven_fork (blocks two_forks) (blocks lone_fork) (one_more 7 (fork_with (pos 9) (pos 0)) lone_fork (none_at_seven (fork_with (pos 0) (pos 0)))) second_tree
 
 -- ---- segments
 to_itself : (S : Region → Type 0) → S (blocks []) → (part : Region) × (rest : Region) × Split (blocks []) part rest × S part × IsEmpty rest

@@ -8,7 +8,7 @@ use Rattle.mc_base.specs.declared.plain.Kind.TheVariants.{Int, Ptr}
 use Rattle.mc_flow.specs.Heap.Heap.{IsAtAddresses}
 use Rattle.mc_flow.specs.Heap.Instances.{nowhere}
 use Rattle.mc_flow.specs.Heap.Parts.{Split}
-use Rattle.mc_flow.specs.Heap.PartLaws.{EmptyHeapIsEmpty, InsertChanges, InsertKeepsAddresses, CellIsAdded}
+use Rattle.mc_flow.specs.Heap.PartLaws.{InsertKeepsAddresses}
 use Rattle.mc_flow.specs.Defs.Examples.{defs, cell_id, fork_id, lenlist_id, tree_id, lenlist_rule, tree_rule, lenlist_def, tree_def, cell_with, fork_with, blocks, two_cells, first_cell, second_cell, two_forks}
 use Rattle.mc_state.specs.declared.graph.edge.Edge.TheVariants.{Block, Ind}
 use Rattle.mc_pure.specs.Derived as pure
@@ -21,9 +21,9 @@ use Rattle.mc_rules_logic.specs.Fold.Examples.{edge, valued, length_folded, fork
 use Rattle.mc_rules_logic.specs.Fold.Folded.{FoldsInd, FoldsSeg, ind_fold, seg_fold}
 use Rattle.mc_rules_logic.proofs.FoldLemmas.ExampleFolds.{itself}
 use Rattle.mc_rules_logic.proofs.FoldLemmas.Parts.{PartLaws, nowhere-IsEmpty, none_left, none_right}
-use Rattle.mc_rules_logic.proofs.FoldLemmas.SmallHeaps.{block_alone, block_before, empty_list, second_tree, second_length}
+use Rattle.mc_flow.proofs.DefsLemmas.SmallHeaps.{added, one_block, nowhere_list, second_long, second_tree}
 
-module _ (laws : PartLaws) (empty : EmptyHeapIsEmpty) (insert : InsertChanges) where
+module _ (laws : PartLaws) where
   pub length_stands : Split (blocks two_cells) (blocks first_cell) (blocks second_cell) → StandsBy defs (valued (pos 7 ∷ pos 5 ∷ pos 9 ∷ pos 1 ∷ pos 2 ∷ [])) [] (blocks two_cells) cell_and_length
   length_stands split =
       record {
@@ -42,16 +42,16 @@ module _ (laws : PartLaws) (empty : EmptyHeapIsEmpty) (insert : InsertChanges) w
             blocks first_cell,
             blocks second_cell,
             split,
-            (7, refl, (Some (pos 5) ∷ Some (pos 9) ∷ [], block_alone empty insert 7 (cell_with (pos 5) (pos 9)), (refl, (refl, tt)))),
-            (blocks second_cell, nowhere, none_right laws (blocks second_cell), second_length laws empty insert, nowhere-IsEmpty),
+            (7, refl, (Some (pos 5) ∷ Some (pos 9) ∷ [], one_block 7 (cell_with (pos 5) (pos 9)), (refl, (refl, tt)))),
+            (blocks second_cell, nowhere, none_right laws (blocks second_cell), second_long, nowhere-IsEmpty),
           );
           alone = λ t. nowhere-IsEmpty;
         };
       }
 
-  pub fork_stands : CellIsAdded → StandsBy defs (valued (pos 7 ∷ pos 9 ∷ [])) [] (blocks two_forks) fork_and_tree
-  fork_stands added =
-      let first = block_before insert added 7 (fork_with (pos 9) (pos 0)) second_fork (get-from_entries nat_cmp_total second_fork 7) in
+  pub fork_stands : StandsBy defs (valued (pos 7 ∷ pos 9 ∷ [])) [] (blocks two_forks) fork_and_tree
+  fork_stands =
+      let first = added 7 (fork_with (pos 9) (pos 0)) second_fork (get-from_entries nat_cmp_total second_fork 7) in
       record {
         null = refl;
         kinds = (
@@ -68,13 +68,13 @@ module _ (laws : PartLaws) (empty : EmptyHeapIsEmpty) (insert : InsertChanges) w
             nowhere,
             blocks two_forks,
             none_left laws (blocks two_forks),
-            empty_list laws,
+            nowhere_list,
             (
               first.0,
               blocks second_fork,
               first.1,
               (7, refl, (Some (pos 9) ∷ Some (pos 0) ∷ [], first.2, (refl, (refl, tt)))),
-              (blocks second_fork, nowhere, none_right laws (blocks second_fork), second_tree laws empty insert, nowhere-IsEmpty),
+              (blocks second_fork, nowhere, none_right laws (blocks second_fork), second_tree, nowhere-IsEmpty),
             ),
           );
           alone = λ t. nowhere-IsEmpty;

@@ -9,7 +9,7 @@ use Rattle.mc_base.specs.declared.plain.Kind.TheVariants.{Int, Ptr}
 use Rattle.mc_base.specs.Nodes.{Valuation}
 use Rattle.mc_flow.specs.Heap.Heap.{Region, IsAtAddresses}
 use Rattle.mc_flow.specs.Heap.Instances.{nowhere}
-use Rattle.mc_flow.specs.Heap.PartLaws.{EmptyHeapIsEmpty, InsertChanges, InsertKeepsAddresses, CellIsAdded}
+use Rattle.mc_flow.specs.Heap.PartLaws.{InsertKeepsAddresses}
 use Rattle.mc_flow.specs.Defs.Examples.{defs, fork_id, tree_id, lenlist_id, tree_rule, tree_def, fork_with, cell_with, blocks, two_cells, shared_fork}
 use Rattle.mc_flow.specs.Defs.Meaning.{Sat}
 use Rattle.mc_state.specs.declared.graph.edge.Edge.{Edge}
@@ -25,7 +25,7 @@ use Rattle.mc_rules_logic.specs.Fold.Changed.{DropsEdge}
 use Rattle.mc_rules_logic.specs.Fold.Examples.{edge, valued, shared_tree, shared_folded, other_length, length_closed, lost_list, list_dropped, second_fork}
 use Rattle.mc_rules_logic.specs.Fold.WrongRules.{SharedFoldIsSound, ClosingAnyArgsIsSound, DroppingKeepsWhole}
 use Rattle.mc_rules_logic.proofs.FoldLemmas.ExampleFolds.{itself}
-use Rattle.mc_rules_logic.proofs.FoldLemmas.SmallHeaps.{block_before, second_tree}
+use Rattle.mc_flow.proofs.DefsLemmas.SmallHeaps.{added, second_tree}
 use Rattle.mc_rules_logic.proofs.FoldLemmas.Parts.{PartLaws, nowhere-IsEmpty, none_right, one_star}
 
 -- what stands for one state
@@ -52,7 +52,7 @@ bounded_shared =
       atoms = tt;
     }
 
-module _ (laws : PartLaws) (empty : EmptyHeapIsEmpty) (insert : InsertChanges) (keeps : InsertKeepsAddresses) (added : CellIsAdded) where
+module _ (laws : PartLaws) (keeps : InsertKeepsAddresses) where
   shared_addresses : IsAtAddresses (blocks []) → IsAtAddresses (blocks shared_fork)
   shared_addresses none =
       keeps (finmap.from_entries second_fork) 7 (fork_with (pos 9) (pos 9)) (omega arith, omega arith)
@@ -60,7 +60,7 @@ module _ (laws : PartLaws) (empty : EmptyHeapIsEmpty) (insert : InsertChanges) (
 
   shared_stands : StandsBy defs (valued (pos 7 ∷ pos 9 ∷ [])) [] (blocks shared_fork) shared_tree
   shared_stands =
-      let first = block_before insert added 7 (fork_with (pos 9) (pos 9)) second_fork (get-from_entries nat_cmp_total second_fork 7) in
+      let first = added 7 (fork_with (pos 9) (pos 9)) second_fork (get-from_entries nat_cmp_total second_fork 7) in
       record {
         null = refl;
         kinds = ((omega (arith, ints), omega (arith, ints)), ((omega (arith, ints), omega (arith, ints)), tt));
@@ -75,7 +75,7 @@ module _ (laws : PartLaws) (empty : EmptyHeapIsEmpty) (insert : InsertChanges) (
             blocks second_fork,
             first.1,
             (7, refl, (Some (pos 9) ∷ Some (pos 9) ∷ [], first.2, (refl, (refl, tt)))),
-            (blocks second_fork, nowhere, none_right laws (blocks second_fork), second_tree laws empty insert, nowhere-IsEmpty),
+            (blocks second_fork, nowhere, none_right laws (blocks second_fork), second_tree, nowhere-IsEmpty),
           );
           alone = λ t. nowhere-IsEmpty;
         };

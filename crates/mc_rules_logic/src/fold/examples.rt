@@ -18,7 +18,7 @@ ghost use Rattle.mc_rules_logic.specs.Fold.Examples.{no_pointer, list_goal, shar
 ghost use Rattle.mc_rules_logic.specs.Fold.Examples.{block_beside, block_left, gap_beside, gap_left};
 
 use mc_flow::defs::{example_predicates, example_premises, example_segments};
-use mc_flow::heap::{changes_are_local, heaps_change_one_address, parts_regroup};
+use mc_flow::heap::{heaps_change_one_address, parts_regroup};
 use mc_state::{body_premises, derived_is_true};
 
 /// A cell and a list after it are folded, and the cell alone as a segment; a fork with one tree
@@ -46,7 +46,6 @@ pub fn example_of_arguments()
     ensures stands { StandsBy defs (valued (pos 7 ∷ pos 5 ∷ pos 9 ∷ pos 1 ∷ pos 2 ∷ [])) [] (blocks two_cells) cell_and_length }
 {
     parts_regroup();
-    heaps_change_one_address();
     example_premises();
     body_premises();
     derived_is_true();
@@ -62,7 +61,6 @@ pub fn example_of_second_call()
 {
     parts_regroup();
     heaps_change_one_address();
-    changes_are_local();
     example_premises();
     derived_is_true();
 }

@@ -2,7 +2,7 @@
 ghost use Rattle.mc_rules_logic.specs.Fold.WrongRules.{SharedFoldIsSound, ClosingAnyArgsIsSound, DroppingKeepsWhole};
 
 use mc_flow::defs::{example_predicates, example_premises};
-use mc_flow::heap::{changes_are_local, heaps_change_one_address, parts_regroup};
+use mc_flow::heap::{heaps_change_one_address, parts_regroup};
 use mc_state::{body_premises, derived_is_true};
 
 /// One edge is not two calls.
@@ -11,7 +11,6 @@ pub fn wrong_fold()
 {
     parts_regroup();
     heaps_change_one_address();
-    changes_are_local();
     example_predicates();
     example_premises();
     derived_is_true();

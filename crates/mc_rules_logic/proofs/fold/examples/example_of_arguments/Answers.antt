@@ -10,7 +10,7 @@ returns-clause-stands c =
       drops_empty = c.parts_regroup.ensures.drops_empty;
       adds_empty = c.parts_regroup.ensures.adds_empty;
     } in
-    length_stands parts c.heaps_change_one_address.ensures.empty c.heaps_change_one_address.ensures.insert c.example_premises.ensures.split
+    length_stands parts c.example_premises.ensures.split
 
 pub returns-clause-ind : goal.returns-clause-ind
 returns-clause-ind c =
@@ -20,4 +20,4 @@ returns-clause-ind c =
       drops_empty = c.parts_regroup.ensures.drops_empty;
       adds_empty = c.parts_regroup.ensures.adds_empty;
     } in
-    length_folds c.derived_is_true.ensures.not_false c.body_premises.ensures.addresses (length_stands parts c.heaps_change_one_address.ensures.empty c.heaps_change_one_address.ensures.insert c.example_premises.ensures.split)
+    length_folds c.derived_is_true.ensures.not_false c.body_premises.ensures.addresses (length_stands parts c.example_premises.ensures.split)

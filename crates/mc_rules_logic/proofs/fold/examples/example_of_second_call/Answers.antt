@@ -10,7 +10,7 @@ returns-clause-stands c =
       drops_empty = c.parts_regroup.ensures.drops_empty;
       adds_empty = c.parts_regroup.ensures.adds_empty;
     } in
-    fork_stands parts c.heaps_change_one_address.ensures.empty c.heaps_change_one_address.ensures.insert c.changes_are_local.ensures.added
+    fork_stands parts
 
 pub returns-clause-addresses : goal.returns-clause-addresses
 returns-clause-addresses c = fork_addresses c.heaps_change_one_address.ensures.insert_keeps c.example_premises.ensures.addresses
@@ -23,4 +23,4 @@ returns-clause-seg c =
       drops_empty = c.parts_regroup.ensures.drops_empty;
       adds_empty = c.parts_regroup.ensures.adds_empty;
     } in
-    fork_folds c.derived_is_true.ensures.not_false (fork_addresses c.heaps_change_one_address.ensures.insert_keeps c.example_premises.ensures.addresses) (fork_stands parts c.heaps_change_one_address.ensures.empty c.heaps_change_one_address.ensures.insert c.changes_are_local.ensures.added)
+    fork_folds c.derived_is_true.ensures.not_false (fork_addresses c.heaps_change_one_address.ensures.insert_keeps c.example_premises.ensures.addresses) (fork_stands parts)

@@ -10,5 +10,4 @@ returns c =
       drops_empty = c.parts_regroup.ensures.drops_empty;
       adds_empty = c.parts_regroup.ensures.adds_empty;
     } in
-    let heaps = c.heaps_change_one_address.ensures in
-    not_shared parts heaps.empty heaps.insert heaps.insert_keeps c.changes_are_local.ensures.added c.derived_is_true.ensures.not_false c.example_premises.ensures.addresses c.example_predicates.ensures.no_tree
+    not_shared parts c.heaps_change_one_address.ensures.insert_keeps c.derived_is_true.ensures.not_false c.example_premises.ensures.addresses c.example_predicates.ensures.no_tree
