@@ -1,5 +1,5 @@
 -- Steps of resolved programs are determined by their choices.
-use Rattle.std.proofs.Common.{◌≡◌, ℕ, zero, suc, ℤ, pos, ◌-ℤ◌, arith, List, [], ◌∷◌, Option, Some, None, refl, ap, sym, ◌∙◌, subst, inl, inr}
+use Rattle.std.proofs.Common.{◌≡◌, ℕ, zero, suc, ℤ, List, [], ◌∷◌, Option, Some, None, refl, ap, sym, ◌∙◌, subst, inl, inr}
 use Rattle.std.specs.Prelude.{slice_get}
 use Rattle.mc_base.specs.declared.ids.PredId.{PredId}
 use Rattle.mc_base.specs.declared.plain.FaultKind.{FaultKind}
@@ -7,52 +7,16 @@ use Rattle.mc_base.specs.declared.text.place.Place.{Place}
 use Rattle.mc_flow.specs.Heap.Heap.{Heap}
 use Rattle.mc_flow.specs.Heap.Choices.{Choice, input as choose_input, malloc as choose_malloc, shape as choose_shape}
 use Rattle.mc_flow.specs.declared.defs.rules.Def.{Def}
-use Rattle.mc_semantics.specs.Values.{Evaluated, fault_of, value_of, IsInput, right_operand, AfterLeft}
-use Rattle.mc_semantics.specs.Steps.{put_before, Arguments, no_arguments, arguments, AfterFirst}
-use Rattle.mc_semantics.specs.Resolved.Programs.{Left, Expr, number, input, value, minus, times, plus, difference, Cond, plain, compare, negation, both, either, Call, Right, expression, result_of, allocation, Action, assign, add, subtract, call, Initial}
+use Rattle.mc_semantics.specs.Values.{Evaluated, fault_of, value_of}
+use Rattle.mc_semantics.specs.Steps.{Arguments, no_arguments, arguments}
+use Rattle.mc_semantics.specs.Resolved.Programs.{Left, Expr, value, Cond, plain, compare, negation, both, either, Call, Right, expression, result_of, allocation, Action, assign, add, subtract, call, Initial}
 use Rattle.mc_semantics.specs.Resolved.Programs.{Stmt, declaration, block, empty, simple, free, assert, assume, assume_shape, assert_shape, assert_empty, if_only, if_else, while_loop, do_loop, for_loop, break_loop, continue_loop, returns, Function, Program}
 use Rattle.mc_semantics.specs.Resolved.Configs.{Values, Target, perform, again, test, always, end_block, end_loop, end_turn, end_call, take_result, Tasks, done, task, Branch, Config, Result}
-use Rattle.mc_semantics.specs.Resolved.Values.{Evaluates}
 use Rattle.mc_semantics.specs.Resolved.Moves.{Arrives, here, there}
-use Rattle.mc_semantics.specs.Resolved.Steps.{Here, AfterValue, WithValue, Allocates, EvaluateAll, AfterArguments, Passes, Assigns, Performs, Declares, DeclaresFirst, AddsShape, Assumes, Demands, Asserts, Returns, Tests, Executes, Does, Step}
+use Rattle.mc_semantics.specs.Resolved.Steps.{Here, AfterValue, WithValue, Allocates, AfterArguments, Passes, Assigns, Performs, Declares, DeclaresFirst, AddsShape, Assumes, Demands, Asserts, Returns, Tests, Executes, Does, Step}
+use Rattle.mc_semantics.proofs.Determined.{IsDetermined, joined, first_of, second_of, never_both}
+use Rattle.mc_semantics.proofs.ResolvedLemmas.Values.{one_value, all_values}
 use Rattle.mc_lower_spec.proofs.Simulating.{IsOnce}
-
--- two that are equal to a third are equal
-pub joined : {X : Type 0} {x y z : X} → x ≡ z → y ≡ z → x ≡ y
-joined e f = e ∙ sym f
-
-one_input : (choices : List Choice) {r s : Evaluated} → IsInput choices r → IsInput choices s → r ≡ s
-one_input [] i j = elim i [ ]
-one_input (choose_input v ∷ choices) i j = joined i.1 j.1
-one_input (choose_malloc n ∷ choices) i j = elim i [ ]
-one_input (choose_shape v blocks ∷ choices) i j = elim i [ ]
-
--- what comes of it is determined
-abbrev pub IsDetermined : {X : Type 0} → (X → Type 0) → Type 0
-IsDetermined {X} P = (x y : X) → P x → P y → x ≡ y
-
-after_left : (operation : ℤ → ℤ → ℤ) (right : List Choice → Evaluated → Type 0) (one : Evaluated) → ((left : List Choice) → IsDetermined (right left)) → IsDetermined (AfterLeft operation right one)
-after_left operation right (fault_of kind) same r s i j = joined i j
-after_left operation right (value_of v choices) same r s (x, is, e) (y, is', f) = e ∙ ap (right_operand operation v) (same choices x y is is') ∙ sym f
-
-operated_once : (values : Values) (heap : Heap) (operation : ℤ → ℤ → ℤ) (a b : Expr) (choices : List Choice) → IsDetermined (Evaluates values heap a choices) → ((left : List Choice) → IsDetermined (Evaluates values heap b left))
-    → IsDetermined (λ r. (one : Evaluated) × Evaluates values heap a choices one × AfterLeft operation (λ rest two. Evaluates values heap b rest two) one r)
-operated_once values heap operation a b choices same_a same_b r s (x, is, rest) (y, is', rest') =
-    after_left operation (λ left two. Evaluates values heap b left two) x same_b r s rest
-    (subst (λ z. AfterLeft operation (λ left two. Evaluates values heap b left two) z s) (sym (same_a x y is is')) rest')
-
-negated_once : (values : Values) (heap : Heap) (e : Expr) (choices : List Choice) → IsDetermined (Evaluates values heap e choices)
-    → IsDetermined (λ r. (one : Evaluated) × Evaluates values heap e choices one × (r ≡ right_operand (λ x y. x -ℤ y) (Some (pos 0)) one))
-negated_once values heap e choices same r s (x, is, i) (y, is', j) = i ∙ ap (right_operand (λ x y. x -ℤ y) (Some (pos 0))) (same x y is is') ∙ sym j
-
-pub one_value : (values : Values) (heap : Heap) (e : Expr) (choices : List Choice) → IsDetermined (Evaluates values heap e choices)
-one_value values heap (number n) choices = λ r s i j. joined i j
-one_value values heap input choices = λ r s i j. one_input choices i j
-one_value values heap (value l) choices = λ r s i j. joined i j
-one_value values heap (minus e) choices = negated_once values heap e choices (one_value values heap e choices)
-one_value values heap (times a b) choices = operated_once values heap _ a b choices (one_value values heap a choices) (λ left. one_value values heap b left)
-one_value values heap (plus a b) choices = operated_once values heap _ a b choices (one_value values heap a choices) (λ left. one_value values heap b left)
-one_value values heap (difference a b) choices = operated_once values heap _ a b choices (one_value values heap a choices) (λ left. one_value values heap b left)
 
 after_value : (place : Place) (go : Option ℤ → List Choice → Result → Type 0) (one : Evaluated) → ((v : Option ℤ) (left : List Choice) → IsDetermined (go v left)) → IsDetermined (AfterValue place go one)
 after_value place go (fault_of kind) same r s i j = joined i j
@@ -69,15 +33,6 @@ allocates h shape fields (choose_shape v blocks ∷ choices) go same r s i j = e
 allocates h shape fields (choose_malloc zero ∷ choices) go same r s i j = same _ _ _ r s i j
 allocates h shape fields (choose_malloc (suc n) ∷ choices) go same r s (a, b, i) (c, d, j) = same _ _ _ r s i j
 
-after_first : (one : Evaluated) (more : List Choice → Arguments → Type 0) → ((left : List Choice) → IsDetermined (more left)) → IsDetermined (AfterFirst more one)
-after_first (fault_of kind) more same r s i j = joined i j
-after_first (value_of v choices) more same r s (x, is, e) (y, is', f) = e ∙ ap (λ z. put_before v z) (same choices x y is is') ∙ sym f
-
-pub evaluate_all : (h : Here) (es : List Expr) (choices : List Choice) → IsDetermined (EvaluateAll h es choices)
-evaluate_all h [] choices r s i j = joined i j
-evaluate_all h (e ∷ es) choices r s (x, is, rest) (y, is', rest') =
-    after_first x _ (λ left. evaluate_all h es left) r s rest (subst (λ z. AfterFirst (λ left others. EvaluateAll h es left others) z s) (sym (one_value h.values h.heap e choices x y is is')) rest')
-
 after_arguments : (h : Here) (f : Option Function) (target : Target) (place : Place) (rest : Tasks) (all : Arguments) → IsDetermined (AfterArguments h f target place rest all)
 after_arguments h f target place rest (no_arguments kind) r s i j = joined i j
 after_arguments h None target place rest (arguments vs choices) r s i j = elim i [ ]
@@ -86,7 +41,7 @@ after_arguments h (Some f) target place rest (arguments vs choices) r s i j = jo
 passes : (p : Program) (h : Here) (c : Call) (target : Target) (place : Place) (rest : Tasks) (choices : List Choice) → IsDetermined (Passes p h c target place rest choices)
 passes p h c target place rest choices r s (x, is, i) (y, is', j) =
     after_arguments h (slice_get p.functions c.function) target place rest x r s i
-    (subst (λ z. AfterArguments h (slice_get p.functions c.function) target place rest z s) (sym (evaluate_all h c.arguments choices x y is is')) j)
+    (subst (λ z. AfterArguments h (slice_get p.functions c.function) target place rest z s) (sym (all_values h c.arguments choices x y is is')) j)
 
 assigns : (p : Program) (h : Here) (l : Left) (right : Right) (place : Place) (rest : Tasks) (choices : List Choice) → IsDetermined (Assigns p h l right place rest choices)
 assigns p h l (expression e) place rest choices = with_value h e place choices _ (λ v left r s i j. joined i j)
@@ -172,17 +127,6 @@ does p h (task (end_loop xs) rest) choices = λ r t i j. elim i [ ]
 does p h (task end_turn rest) choices = λ r t i j. elim i [ ]
 does p h (task (end_call saved target) rest) choices = λ r t i j. elim i [ ]
 does p h (task (take_result target v) rest) choices = λ r s i j. joined i j
-
-abbrev first_of : Values → Option (Values × Tasks) → Values
-first_of v None = v
-first_of v (Some p) = p.0
-
-abbrev second_of : Tasks → Option (Values × Tasks) → Tasks
-second_of ts None = ts
-second_of ts (Some p) = p.1
-
-never_both : {o : Option (Values × Tasks)} {p : Values × Tasks} → o ≡ None → o ≡ Some p → ⊥
-never_both none some = let e = sym none ∙ some in absurd (grind arith)
 
 -- there is one place at which the next step is
 pub one_arrival : {v w v' : Values} {ts us us' : Tasks} → Arrives v ts w us → Arrives v ts v' us' → (w ≡ v') × (us ≡ us')

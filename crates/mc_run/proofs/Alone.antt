@@ -8,7 +8,7 @@ use Rattle.mc_semantics.specs.Resolved.Steps.{EvaluateAll, Here}
 use Rattle.mc_semantics.specs.Resolved.Values.{Evaluates}
 use Rattle.mc_semantics.specs.Waiting.Requests.{an_input, IsUnanswered}
 use Rattle.mc_run_values.specs.Values.Asking.{ArgumentsAsk, AsksBehind, ValueAsks}
-use Rattle.mc_run.proofs.Determined.{one_value}
+use Rattle.mc_semantics.proofs.ResolvedLemmas.Values.{one_value}
 use Rattle.mc_semantics.proofs.WaitingLemmas.Values.{no_input}
 
 not_behind : (h : Here) (operation : ℤ → ℤ → ℤ) (b : Expr) (v : Option ℤ) (rest left : List Choice) (one r : Evaluated) → one ≡ value_of v rest
@@ -25,7 +25,7 @@ not_both : (h : Here) (operation : ℤ → ℤ → ℤ) (a b : Expr) (choices le
     → ValueAsks h.values h.heap a choices left ⊎ AsksBehind h.values h.heap a choices (λ rest. ValueAsks h.values h.heap b rest left) → ⊥
 not_both h operation a b choices left r first second is (inl asks) = first is.0 is.1 asks
 not_both h operation a b choices left r first second is (inr asks) =
-    not_behind h operation b asks.0 asks.1 left is.0 r (one_value h a choices is.0 (value_of asks.0 asks.1) is.1 asks.2) (λ two comes. second asks.1 two comes asks.3) is.2
+    not_behind h operation b asks.0 asks.1 left is.0 r (one_value h.values h.heap a choices is.0 (value_of asks.0 asks.1) is.1 asks.2) (λ two comes. second asks.1 two comes asks.3) is.2
 
 pub value_alone : (h : Here) (e : Expr) (choices left : List Choice) (one : Evaluated) → IsUnanswered an_input left → Evaluates h.values h.heap e choices one → ValueAsks h.values h.heap e choices left → ⊥
 value_alone h (number n) choices left one w is asks = asks
@@ -41,5 +41,5 @@ arguments_alone h [] choices left all w is asks = asks
 arguments_alone h (e ∷ es) choices left all w is (inl asks) = value_alone h e choices left is.0 w is.1 asks
 arguments_alone h (e ∷ es) choices left all w is (inr asks) =
     let P : Evaluated → Type 0 = λ x. AfterFirst (λ rest others. EvaluateAll h es rest others) x all in
-    let there : AfterFirst (λ rest others. EvaluateAll h es rest others) (value_of asks.0 asks.1) all = subst P (one_value h e choices is.0 (value_of asks.0 asks.1) is.1 asks.2) is.2 in
+    let there : AfterFirst (λ rest others. EvaluateAll h es rest others) (value_of asks.0 asks.1) all = subst P (one_value h.values h.heap e choices is.0 (value_of asks.0 asks.1) is.1 asks.2) is.2 in
     arguments_alone h es asks.1 left there.0 w there.1 asks.3

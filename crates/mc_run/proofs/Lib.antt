@@ -1,4 +1,3 @@
-pub mod Determined
 pub mod Alone
 pub mod Using
 pub mod Passing

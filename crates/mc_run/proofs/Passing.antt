@@ -19,7 +19,7 @@ use Rattle.mc_run.specs.declared.outcome.End.TheVariants as ends
 use Rattle.mc_run.specs.declared.outcome.Stepped.{Stepped}
 use Rattle.mc_run.specs.declared.outcome.Stepped.TheVariants as steps
 use Rattle.mc_run.specs.Steps.{Comes, IsStep}
-use Rattle.mc_run.proofs.Determined.{all_values}
+use Rattle.mc_semantics.proofs.ResolvedLemmas.Values.{all_values}
 use Rattle.mc_run.proofs.Alone.{arguments_alone}
 use Rattle.mc_run.proofs.Using.{unanswered_by}
 use Rattle.std.proofs.Common.{Vec, Global}

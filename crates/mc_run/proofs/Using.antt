@@ -22,7 +22,7 @@ use Rattle.mc_run.specs.declared.outcome.Stepped.TheVariants as steps
 use Rattle.mc_run.specs.Asking.{AsksInput}
 use Rattle.mc_run.specs.Models.{final_of}
 use Rattle.mc_run.specs.Steps.{Comes, HasNoStep, IsStep}
-use Rattle.mc_run.proofs.Determined.{one_value}
+use Rattle.mc_semantics.proofs.ResolvedLemmas.Values.{one_value}
 use Rattle.mc_run.proofs.Alone.{value_alone}
 
 pub unanswered_by : (request wanted : Request) (left : List Choice) → request ≡ wanted → IsUnanswered request left → IsUnanswered wanted left
@@ -54,7 +54,7 @@ behind_value : (h : Here) (e : Expr) (place : Place) (choices : List Choice) (go
     → WithValue h e place choices go r → Evaluates h.values h.heap e choices (value_of v rest) → go v rest r
 behind_value h e place choices go r v rest is comes =
     let P : Evaluated → Type 0 = λ x. AfterValue place go x r in
-    subst P (one_value h e choices is.0 (value_of v rest) is.1 comes) is.2
+    subst P (one_value h.values h.heap e choices is.0 (value_of v rest) is.1 comes) is.2
 
 -- it has a value, with which no choice is taken
 pub value_used : (structs : List StructInfo) (h : Here) (e : Expr) (place : Place) (go : Option ℤ → List Choice → Result → Type 0) (v : Option ℤ) (stepped : Stepped) (c : Config) (old new : List (List ℕ))
@@ -86,7 +86,7 @@ asks_on : (h : Here) (e : Expr) (Asks : List Choice → List Choice → Type 0) 
     → AsksBehind h.values h.heap e choices (λ more. Asks more left) → Asks rest left
 asks_on h e Asks choices rest left v is asks =
     let P : Evaluated → Type 0 = λ x. AsksAt (λ more. Asks more left) x in
-    subst P (one_value h e choices (value_of asks.0 asks.1) (value_of v rest) asks.2 is) asks.3
+    subst P (one_value h.values h.heap e choices (value_of asks.0 asks.1) (value_of v rest) asks.2 is) asks.3
 
 no_step : (h : Here) (e : Expr) (place : Place) (go : Option ℤ → List Choice → Result → Type 0) (Asks : List Choice → List Choice → Type 0) (v : Option ℤ) (choices rest : List Choice)
     → Evaluates h.values h.heap e choices (value_of v rest) → HasNoStep (λ r. go v rest r) (λ request left. (request ≡ an_input) × Asks rest left)

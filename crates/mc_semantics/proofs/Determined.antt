@@ -1,5 +1,5 @@
 -- A step is determined by its choices.
-use Rattle.std.proofs.Common.{◌≡◌, zero, suc, ℤ, pos, ◌-ℤ◌, arith, List, [], ◌∷◌, Option, Some, None, refl, ap, sym, ◌∙◌, subst, inl, inr}
+use Rattle.std.proofs.Common.{◌≡◌, zero, suc, ℤ, pos, ◌-ℤ◌, List, [], ◌∷◌, Option, Some, None, refl, ap, sym, ◌∙◌, subst, inl, inr}
 use Rattle.mc_base.specs.declared.plain.FaultKind.{FaultKind}
 use Rattle.mc_base.specs.declared.text.place.Place.{Place}
 use Rattle.mc_flow.specs.Heap.Heap.{Heap}
@@ -19,7 +19,7 @@ use Rattle.mc_semantics.specs.Steps.{put_before, AfterValue, WithValue, Allocate
 pub joined : {X : Type 0} {x y z : X} → x ≡ z → y ≡ z → x ≡ y
 joined e f = e ∙ sym f
 
-one_input : (choices : List Choice) {r s : Evaluated} → IsInput choices r → IsInput choices s → r ≡ s
+pub one_input : (choices : List Choice) {r s : Evaluated} → IsInput choices r → IsInput choices s → r ≡ s
 one_input [] i j = elim i [ ]
 one_input (choose_input v ∷ choices) i j = joined i.1 j.1
 one_input (choose_malloc n ∷ choices) i j = elim i [ ]
@@ -33,26 +33,26 @@ after_left : (operation : ℤ → ℤ → ℤ) (right : List Choice → Evaluate
 after_left operation right (fault_of kind) same r s i j = joined i j
 after_left operation right (value_of v choices) same r s (x, is, e) (y, is', f) = e ∙ ap (right_operand operation v) (same choices x y is is') ∙ sym f
 
-operated_once : (h : Here) (operation : ℤ → ℤ → ℤ) (a b : Expr) (choices : List Choice) → IsDetermined (Evaluates h a choices) → ((left : List Choice) → IsDetermined (Evaluates h b left))
-    → IsDetermined (λ r. (one : Evaluated) × Evaluates h a choices one × AfterLeft operation (λ rest two. Evaluates h b rest two) one r)
-operated_once h operation a b choices same_a same_b r s (x, is, rest) (y, is', rest') =
-    after_left operation (λ left two. Evaluates h b left two) x same_b r s rest
-    (subst (λ z. AfterLeft operation (λ left two. Evaluates h b left two) z s) (sym (same_a x y is is')) rest')
+-- two operands, one after the other, and the operand of a minus
+pub operated_once : (operation : ℤ → ℤ → ℤ) (first second : List Choice → Evaluated → Type 0) (choices : List Choice) → IsDetermined (first choices) → ((left : List Choice) → IsDetermined (second left))
+    → IsDetermined (λ r. (one : Evaluated) × first choices one × AfterLeft operation second one r)
+operated_once operation first second choices same_a same_b r s (x, is, rest) (y, is', rest') =
+    after_left operation second x same_b r s rest (subst (λ z. AfterLeft operation second z s) (sym (same_a x y is is')) rest')
 
-negated_once : (h : Here) (e : Expr) (choices : List Choice) → IsDetermined (Evaluates h e choices)
-    → IsDetermined (λ r. (one : Evaluated) × Evaluates h e choices one × (r ≡ right_operand (λ x y. x -ℤ y) (Some (pos 0)) one))
-negated_once h e choices same r s (x, is, i) (y, is', j) = i ∙ ap (right_operand (λ x y. x -ℤ y) (Some (pos 0))) (same x y is is') ∙ sym j
+pub negated_once : (first : List Choice → Evaluated → Type 0) (choices : List Choice) → IsDetermined (first choices)
+    → IsDetermined (λ r. (one : Evaluated) × first choices one × (r ≡ right_operand (λ x y. x -ℤ y) (Some (pos 0)) one))
+negated_once first choices same r s (x, is, i) (y, is', j) = i ∙ ap (right_operand (λ x y. x -ℤ y) (Some (pos 0))) (same x y is is') ∙ sym j
 
 pub one_value : (h : Here) (e : Expr) (choices : List Choice) → IsDetermined (Evaluates h e choices)
 one_value h (number n p) choices = λ r s i j. joined i j
 one_value h (null p) choices = λ r s i j. joined i j
 one_value h (input p) choices = λ r s i j. one_input choices i j
 one_value h (value l) choices = λ r s i j. joined i j
-one_value h (minus p e) choices = negated_once h e choices (one_value h e choices)
+one_value h (minus p e) choices = negated_once (Evaluates h e) choices (one_value h e choices)
 one_value h (parens p e) choices = one_value h e choices
-one_value h (times a b) choices = operated_once h _ a b choices (one_value h a choices) (λ left. one_value h b left)
-one_value h (plus a b) choices = operated_once h _ a b choices (one_value h a choices) (λ left. one_value h b left)
-one_value h (difference a b) choices = operated_once h _ a b choices (one_value h a choices) (λ left. one_value h b left)
+one_value h (times a b) choices = operated_once _ (Evaluates h a) (Evaluates h b) choices (one_value h a choices) (λ left. one_value h b left)
+one_value h (plus a b) choices = operated_once _ (Evaluates h a) (Evaluates h b) choices (one_value h a choices) (λ left. one_value h b left)
+one_value h (difference a b) choices = operated_once _ (Evaluates h a) (Evaluates h b) choices (one_value h a choices) (λ left. one_value h b left)
 
 after_value : (place : Place) (go : Option ℤ → List Choice → Result → Type 0) (one : Evaluated) → ((v : Option ℤ) (left : List Choice) → IsDetermined (go v left)) → IsDetermined (AfterValue place go one)
 after_value place go (fault_of kind) same r s i j = joined i j
@@ -69,7 +69,7 @@ allocates h m (choose_shape v blocks ∷ choices) go same r s i j = elim i [ ]
 allocates h m (choose_malloc zero ∷ choices) go same r s i j = same _ _ _ r s i j
 allocates h m (choose_malloc (suc n) ∷ choices) go same r s (a, b, i) (c, d, j) = same _ _ _ r s i j
 
-after_first : (one : Evaluated) (more : List Choice → Arguments → Type 0) → ((left : List Choice) → IsDetermined (more left)) → IsDetermined (AfterFirst more one)
+pub after_first : (one : Evaluated) (more : List Choice → Arguments → Type 0) → ((left : List Choice) → IsDetermined (more left)) → IsDetermined (AfterFirst more one)
 after_first (fault_of kind) more same r s i j = joined i j
 after_first (value_of v choices) more same r s (x, is, e) (y, is', f) = e ∙ ap (λ z. put_before v z) (same choices x y is is') ∙ sym f
 
@@ -177,16 +177,17 @@ does p values heap (task end_turn rest) choices = λ r t i j. elim i [ ]
 does p values heap (task (end_call saved target) rest) choices = λ r t i j. elim i [ ]
 does p values heap (task (take_result target v) rest) choices = λ r s i j. joined i j
 
-abbrev first_of : Values → Option (Values × Tasks) → Values
-first_of v None = v
-first_of v (Some p) = p.0
+-- the parts of a pair, if there is one
+abbrev pub first_of : {A B : Type 0} → A → Option (A × B) → A
+first_of a None = a
+first_of a (Some p) = p.0
 
-abbrev second_of : Tasks → Option (Values × Tasks) → Tasks
-second_of ts None = ts
-second_of ts (Some p) = p.1
+abbrev pub second_of : {A B : Type 0} → B → Option (A × B) → B
+second_of b None = b
+second_of b (Some p) = p.1
 
-never_both : {o : Option (Values × Tasks)} {p : Values × Tasks} → o ≡ None → o ≡ Some p → ⊥
-never_both none some = let e = sym none ∙ some in absurd (grind arith)
+pub never_both : {X : Type 0} {o : Option X} {p : X} → o ≡ None → o ≡ Some p → ⊥
+never_both none some = cc (none, some)
 
 -- there is one place at which the next step is
 pub one_arrival : (t : Tables) {v w v' : Values} {ts us us' : Tasks} → Arrives t v ts w us → Arrives t v ts v' us' → (w ≡ v') × (us ≡ us')

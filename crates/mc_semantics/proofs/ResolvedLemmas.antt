@@ -5,3 +5,4 @@ pub mod Moving
 pub mod Passing
 pub mod Stepping
 pub mod Running
+pub mod Values
