@@ -26,7 +26,8 @@ use Rattle.mc_lower_spec.specs.Runs.{FlowStep}
 use Rattle.mc_lower_spec.specs.Scopes.{IsIn}
 use Rattle.mc_lower_spec.proofs.Simulating.{one, Alike, alike_next, alike_last, both_go, both_end, both_wait, both_choose}
 use Rattle.mc_lower_spec.proofs.Stepping.{Vars, at, never_from, step_at, step_from}
-use Rattle.mc_lower_spec.proofs.Evaluating.{Agree, goal_of}
+use Rattle.mc_lower_spec.proofs.Stages.{goal_of, variables_of}
+use Rattle.mc_lower_spec.proofs.Evaluating.{Agree}
 use Rattle.mc_lower_spec.proofs.Changing.{IsClean}
 use Rattle.mc_lower_spec.proofs.Performing.{Settable, Changes, nothing_set, one_set, IsPerformed, performed_waits, performed_faults, performed, assigning}
 use Rattle.mc_lower_spec.proofs.Allocating.{allocating}
@@ -34,7 +35,7 @@ use Rattle.mc_lower_spec.proofs.Freeing.{adding, subtracting}
 use Rattle.mc_lower_spec.proofs.Combining.{adding_field, subtracting_field}
 use Rattle.mc_lower_spec.proofs.Arguing.{same_argument, same_arguments}
 use Rattle.mc_lower_spec.proofs.Holding.{AreOnce, Limit, Frame, Held, IsUnder, set_held}
-use Rattle.mc_lower_spec.proofs.Growing.{variables_of, appended, undefined, on}
+use Rattle.mc_lower_spec.proofs.Growing.{appended, undefined, on}
 use Rattle.mc_lower_spec.proofs.Following.{IsWithin, frame_of, Follows, Match, match, held_raised}
 use Rattle.mc_lower_spec.proofs.Pairing.{config, PairOf, here_of, does_step, step_does}
 

@@ -16,11 +16,12 @@ use Rattle.mc_flow.specs.declared.instr.Instr.TheVariants.{Store}
 use Rattle.mc_semantics.specs.Values.{Evaluated, fault_of, value_of, operated, evaluated, Found, found, after_found}
 use Rattle.mc_semantics.specs.Resolved.Configs.{Values, held}
 use Rattle.mc_semantics.specs.Resolved.Programs.{FieldAt, Left}
-use Rattle.mc_semantics.specs.Resolved.Values.{Changed, fault_in, changed, put, computed, assigned_behind, behind_base, behind_value, loaded}
-use Rattle.mc_lower_spec.specs.Graphs.{Graph, Owner, local, Stage, stage, plain, point, IsPoint, Undefines}
+use Rattle.mc_semantics.specs.Resolved.Values.{Changed, fault_in, put, computed, assigned_behind, behind_base, behind_value, loaded}
+use Rattle.mc_lower_spec.specs.Graphs.{Graph, local, Stage, stage, plain, point, IsPoint, Undefines}
 use Rattle.mc_lower_spec.specs.Values.{Operation, a_field, struct_at, Takes, Walks, walks_none, walks}
 use Rattle.mc_lower_spec.proofs.Stepping.{Vars, Comes}
-use Rattle.mc_lower_spec.proofs.Evaluating.{AreTemporaries, not_temporary, OnlyNew, both_new, goal_of, Leads, leads_on, Taken, taken_waits, taken_faults, taken_gives, taking, taken_temporaries, grown, Walked, walked_faults, walked, walking, walk_grows, walk_temporaries, whole_chain, base_value, load_faults, load_gives, Kept, kept_value}
+use Rattle.mc_lower_spec.proofs.Stages.{goal_of}
+use Rattle.mc_lower_spec.proofs.Evaluating.{AreTemporaries, not_temporary, OnlyNew, both_new, Leads, leads_on, Taken, taken_waits, taken_faults, taken_gives, taking, taken_temporaries, grown, Walked, walked_faults, walked, walking, walk_grows, walk_temporaries, whole_chain, base_value, load_faults, load_gives, Kept, kept_value}
 use Rattle.mc_lower_spec.proofs.Changing.{IsClean}
 use Rattle.mc_lower_spec.proofs.Storing.{IsPut, put_faults, stored_put, store_step, assigned_at_last}
 

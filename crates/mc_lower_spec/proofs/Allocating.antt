@@ -25,7 +25,8 @@ use Rattle.mc_lower_spec.specs.Lowering.{sets_allocated, Assigns as LowersTo, as
 use Rattle.mc_lower_spec.specs.Runs.{FlowStep}
 use Rattle.mc_lower_spec.proofs.Simulating.{one, more}
 use Rattle.mc_lower_spec.proofs.Stepping.{Vars, at, Never, never_from, step_at, step_from}
-use Rattle.mc_lower_spec.proofs.Evaluating.{AreTemporaries, no_temporaries, one_more, OnlyNew, new_set, set_here, Agree, agree_later, goal_of, used_owner, uses_goal}
+use Rattle.mc_lower_spec.proofs.Stages.{goal_of}
+use Rattle.mc_lower_spec.proofs.Evaluating.{AreTemporaries, no_temporaries, one_more, OnlyNew, new_set, set_here, Agree, agree_later, used_owner, uses_goal}
 use Rattle.mc_lower_spec.proofs.Changing.{IsClean}
 use Rattle.mc_lower_spec.proofs.Storing.{IsPut, put_faults, put_gives, putting}
 use Rattle.mc_lower_spec.proofs.Performing.{Settable, IsPerformed, performed_waits, performed_faults, performed, nothing_set, one_set}

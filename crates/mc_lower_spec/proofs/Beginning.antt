@@ -30,10 +30,11 @@ use Rattle.mc_lower_spec.specs.Runs.{FlowStep}
 use Rattle.mc_lower_spec.specs.Scopes.{IsScoped, AreScoped}
 use Rattle.mc_lower_spec.proofs.Simulating.{Goes, one, more, both_go, source_goes, both_end, both_wait}
 use Rattle.mc_lower_spec.proofs.Stepping.{Vars, at, step_at}
-use Rattle.mc_lower_spec.proofs.Evaluating.{AreTemporaries, no_temporaries, goal_of, set_here}
-use Rattle.mc_lower_spec.proofs.Changing.{IsClean, length_set, undefines_goes}
+use Rattle.mc_lower_spec.proofs.Stages.{goal_of, points_of, variables_of}
+use Rattle.mc_lower_spec.proofs.Evaluating.{AreTemporaries, no_temporaries, set_here}
+use Rattle.mc_lower_spec.proofs.Changing.{IsClean, length_set}
 use Rattle.mc_lower_spec.proofs.Holding.{AreOnce, Limit, limit, Frame, AllHeld, Held, IsInside, AreNested, IsNone, inside_none, same_out, no_temporary}
-use Rattle.mc_lower_spec.proofs.Growing.{IsGrown, points_of, variables_of, all_lowered, on, passed as passed_grown, undefined, awaited as awaited_grown, all_evaluated}
+use Rattle.mc_lower_spec.proofs.Growing.{IsGrown, all_lowered, on, passed as passed_grown, undefined, awaited as awaited_grown, all_evaluated}
 use Rattle.mc_lower_spec.proofs.Following.{below, frame_of, IsResult, no_result, a_result, Wants, IsWithin, Follows, ends_call, match, follows_in_a_row, no_late, weight}
 use Rattle.mc_lower_spec.proofs.Leaving.{ending, ending_set, ending_other, frames_result, result_no_local, result_no_temporary, another_result}
 use Rattle.mc_lower_spec.proofs.Passing.{AllEnded, all_waits, all_faults, all_gives, evaluating_all, all_temporaries, outer_operands, AreOwned, received_owned, Copied, copied_none, copied_all, copied_same, copying, put_all, put_elsewhere, length_put_all, frames_put, put_cleaned, passed_beyond, passed_length, received_agree, received_low}

@@ -1,7 +1,6 @@
 -- Calls begin, end, and their results are taken.
 use Rattle.std.proofs.Common.{◌<◌, ◌≤◌, ◌≡◌, ℕ, suc, ℤ, List, [], ◌∷◌, Option, Some, None, length, refl, sym, ap, ◌∙◌, subst, arith}
 use Rattle.std.specs.Prelude.{slice_get, slice_index_or, Contains}
-use Rattle.std.proofs.lemmas.Option.{slice_get_within}
 use Rattle.mc_base.specs.declared.ids.PointId.{PointId}
 use Rattle.mc_base.specs.declared.ids.VarId.{VarId}
 use Rattle.mc_base.specs.declared.plain.FaultKind.TheVariants.{Uninit}
@@ -15,7 +14,7 @@ use Rattle.mc_flow.specs.declared.instr.Instr.{Instr}
 use Rattle.mc_flow.specs.declared.instr.Instr.TheVariants.{Copy, Undef}
 use Rattle.mc_flow.specs.declared.instr.Operand.TheVariants.{Var}
 use Rattle.mc_flow.specs.Steps as flow
-use Rattle.mc_semantics.specs.Resolved.Configs.{Values, Target, stored, returned, held, with_variable, perform, end_call, take_result, Tasks, task, Config, Result}
+use Rattle.mc_semantics.specs.Resolved.Configs.{Values, Target, stored, returned, held, with_variable, end_call, take_result, Tasks, task, Config}
 use Rattle.mc_semantics.specs.Resolved.Configs as source
 use Rattle.mc_semantics.specs.Resolved.Moves.{given}
 use Rattle.mc_semantics.specs.Resolved.Programs.{Left, Function}
@@ -27,11 +26,11 @@ use Rattle.mc_lower_spec.specs.Lowering.{Around, in_body}
 use Rattle.mc_lower_spec.specs.Runs.{FlowStep}
 use Rattle.mc_lower_spec.proofs.Simulating.{Goes, one, both_go, both_end, flow_goes, source_goes}
 use Rattle.mc_lower_spec.proofs.Stepping.{Vars, at, step_at}
-use Rattle.mc_lower_spec.proofs.Evaluating.{AreTemporaries, no_temporaries, not_temporary, nothing_new, OnlyNew, goal_of, Leads, set_here, set_elsewhere}
+use Rattle.mc_lower_spec.proofs.Stages.{goal_of, variables_of}
+use Rattle.mc_lower_spec.proofs.Evaluating.{no_temporaries, not_temporary, nothing_new}
 use Rattle.mc_lower_spec.proofs.Storing.{IsPut, put_faults, put_gives, putting}
 use Rattle.mc_lower_spec.proofs.Performing.{one_set}
 use Rattle.mc_lower_spec.proofs.Holding.{AreOnce, Limit, limit, IsLate, AreLate, Frame, Held, IsInside, IsNone}
-use Rattle.mc_lower_spec.proofs.Growing.{variables_of}
 use Rattle.mc_lower_spec.proofs.Following.{below, frame_of, IsResult, no_result as without_result, a_result, Wants, IsWithin, Follows, Match, match, match_end, weight, held_raised}
 use Rattle.mc_lower_spec.proofs.Leaving.{Ending, ending, left, result_stays, result_set, given_match}
 use Rattle.mc_lower_spec.proofs.Walking.{ToOut, out_of_run, out_of_call}

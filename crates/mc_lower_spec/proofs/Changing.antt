@@ -15,7 +15,8 @@ use Rattle.mc_lower_spec.specs.Graphs.{Graph, temporary, Stage, point, appends, 
 use Rattle.mc_lower_spec.specs.Runs.{FlowStep}
 use Rattle.mc_lower_spec.proofs.Simulating.{Goes, one, more}
 use Rattle.mc_lower_spec.proofs.Stepping.{Vars, at, step_at}
-use Rattle.mc_lower_spec.proofs.Evaluating.{AreTemporaries, OnlyNew, goal_of, set_here, set_elsewhere}
+use Rattle.mc_lower_spec.proofs.Stages.{goal_of}
+use Rattle.mc_lower_spec.proofs.Evaluating.{AreTemporaries, OnlyNew, set_here, set_elsewhere}
 
 -- ---- lists of variables
 -- two lists of one length with the same at each number are one

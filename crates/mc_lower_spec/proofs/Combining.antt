@@ -17,7 +17,8 @@ use Rattle.mc_semantics.specs.Resolved.Values.{combined, Evaluates as Source}
 use Rattle.mc_lower_spec.specs.Graphs.{Graph, local, Stage, plain, Appends, Undefines, IsMade, is_made}
 use Rattle.mc_lower_spec.specs.Values.{struct_at, a_field, a_sum, a_difference, Walks, Takes, Evaluates}
 use Rattle.mc_lower_spec.proofs.Stepping.{Vars}
-use Rattle.mc_lower_spec.proofs.Evaluating.{AreTemporaries, no_temporaries, OnlyNew, Agree, agree_later, goal_of, Leads, Ended, ended_waits, ended_faults, ended_gives, evaluating, temporaries, kept}
+use Rattle.mc_lower_spec.proofs.Stages.{goal_of}
+use Rattle.mc_lower_spec.proofs.Evaluating.{AreTemporaries, no_temporaries, OnlyNew, Agree, agree_later, Leads, Ended, ended_waits, ended_faults, ended_gives, evaluating, temporaries, kept}
 use Rattle.mc_lower_spec.proofs.Changing.{IsClean}
 use Rattle.mc_lower_spec.proofs.Storing.{IsPut, put_faults, put_gives}
 use Rattle.mc_lower_spec.proofs.Performing.{Settable, IsPerformed, performed_waits, performed_faults, performed, nothing_set}

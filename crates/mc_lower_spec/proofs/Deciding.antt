@@ -28,9 +28,10 @@ use Rattle.mc_lower_spec.specs.Graphs.{Graph, Stage, stage, plain, point, IsPoin
 use Rattle.mc_lower_spec.specs.Values.{decides, Evaluates, Compares, compares as compares_at}
 use Rattle.mc_lower_spec.specs.Runs.{FlowStep}
 use Rattle.mc_lower_spec.proofs.Simulating.{Goes, one}
-use Rattle.mc_lower_spec.proofs.SourceOnce.{one_value}
+use Rattle.mc_semantics.proofs.ResolvedLemmas.Values.{one_value}
 use Rattle.mc_lower_spec.proofs.Stepping.{Vars, at, Never, step_at}
-use Rattle.mc_lower_spec.proofs.Evaluating.{AreTemporaries, no_temporaries, OnlyNew, both_new, Agree, agree_later, goal_of, Leads, leads_on, Ended, ended_waits, ended_faults, ended_gives, evaluating, temporaries, grows, kept, kept_value, Kept}
+use Rattle.mc_lower_spec.proofs.Stages.{goal_of}
+use Rattle.mc_lower_spec.proofs.Evaluating.{AreTemporaries, no_temporaries, OnlyNew, both_new, Agree, agree_later, Leads, leads_on, Ended, ended_waits, ended_faults, ended_gives, evaluating, temporaries, grows, kept, kept_value, Kept}
 use Rattle.mc_lower_spec.proofs.Changing.{IsClean, restored, undefines_goes}
 
 -- ---- the test of two operands

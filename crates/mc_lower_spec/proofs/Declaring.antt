@@ -16,10 +16,10 @@ use Rattle.mc_lower_spec.specs.Lowering.{Around, Performs, performs_assign, perf
 use Rattle.mc_lower_spec.specs.Scopes.{WritesIn, DeclareIn, AreScoped}
 use Rattle.mc_lower_spec.proofs.Simulating.{one, both_go}
 use Rattle.mc_lower_spec.proofs.Stepping.{Vars, at, step_at}
-use Rattle.mc_lower_spec.proofs.Evaluating.{goal_of}
+use Rattle.mc_lower_spec.proofs.Stages.{goal_of, points_of, variables_of}
 use Rattle.mc_lower_spec.proofs.Performing.{one_set}
 use Rattle.mc_lower_spec.proofs.Holding.{AreOnce, Limit, Frame, Held}
-use Rattle.mc_lower_spec.proofs.Growing.{points_of, variables_of, declared, undefined, performed as grown}
+use Rattle.mc_lower_spec.proofs.Growing.{declared, undefined, performed as grown}
 use Rattle.mc_lower_spec.proofs.Following.{takes_stored, wants_nothing, wants, IsWithin, within_less, frame_of, Follows, performs, match, held_raised, action_weight, calls_at, weight, deep, call_heavy}
 use Rattle.mc_lower_spec.proofs.Pairing.{config, PairOf, here_of, does_step, step_does, source_moved}
 use Rattle.mc_lower_spec.proofs.Acting.{changes_held, performed_by, assign_performed, add_performed, subtract_performed}

@@ -1,5 +1,5 @@
 -- Blocks and loops are entered and left.
-use Rattle.std.proofs.Common.{◌<◌, ◌≤◌, ◌≡◌, ◌⊎◌, ◌++◌, inl, inr, ℕ, List, [], ◌∷◌, Option, Some, None, length, refl, arith}
+use Rattle.std.proofs.Common.{◌<◌, ◌≤◌, ◌≡◌, ◌++◌, inl, inr, ℕ, List, [], ◌∷◌, Some, None, arith}
 use Rattle.std.specs.Prelude.{Contains, slice_get}
 use Rattle.mc_semantics.specs.Resolved.Configs.{Values, held}
 use Rattle.mc_lower_spec.specs.Graphs.{Graph, local, AreMade, Stage, stage, IsMade, is_made}
@@ -7,8 +7,8 @@ use Rattle.mc_base.specs.declared.ids.VarId.{VarId}
 use Rattle.mc_lower_spec.specs.Lowering.{Around, in_block}
 use Rattle.mc_lower_spec.specs.Scopes.{AreNew}
 use Rattle.mc_lower_spec.proofs.Stepping.{Vars}
-use Rattle.mc_lower_spec.proofs.Holding.{Limit, limit, IsLate, AreLate, Held, rescoped, among, in_left, in_right, in_either, neither_in, AreTheirs, AreUndone}
-use Rattle.mc_lower_spec.proofs.Growing.{variables_of}
+use Rattle.mc_lower_spec.proofs.Holding.{Limit, limit, IsLate, Held, rescoped, among, in_right, in_either, neither_in, AreTheirs}
+use Rattle.mc_lower_spec.proofs.Stages.{variables_of}
 use Rattle.mc_lower_spec.proofs.Following.{frame_of, around_loop, outer_limits, no_late, late_raised}
 use Rattle.std.proofs.Math.Decide.{dec_lt}
 

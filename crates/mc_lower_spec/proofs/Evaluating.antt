@@ -19,11 +19,12 @@ use Rattle.mc_semantics.specs.Values.{Evaluated, fault_of, value_of, faulty, fou
 use Rattle.mc_semantics.specs.Resolved.Configs.{Values, held}
 use Rattle.mc_semantics.specs.Resolved.Programs.{FieldAt, Expr, value, minus}
 use Rattle.mc_semantics.specs.Resolved.Values.{loaded, behind_value, Evaluates as Source}
+use Rattle.mc_lower_spec.proofs.Stages.{goal_of}
 use Rattle.mc_lower_spec.specs.Graphs.{Graph, Owner, local, result, temporary, Stage, stage, appends, creates, is_made, Uses, uses_first, uses_again}
 use Rattle.mc_lower_spec.specs.Values.{Operation, a_field, a_sum, a_difference, a_product, Takes, takes, Walks, walks_none, walks, Evaluates, of_number, of_variable, of_operation, Computes, of_input, of_field, of_minus, of_times, of_plus, of_difference}
 use Rattle.mc_lower_spec.specs.Runs.{FlowStep}
 use Rattle.mc_lower_spec.proofs.Simulating.{Goes, one, more}
-use Rattle.mc_lower_spec.proofs.SourceOnce.{one_value}
+use Rattle.mc_semantics.proofs.ResolvedLemmas.Values.{one_value}
 use Rattle.mc_lower_spec.proofs.Stepping.{Vars, at, Never, never_behind, Comes, Operates, op_waits, op_faults, op_gives, operates}
 
 -- ---- temporaries in use
@@ -137,9 +138,6 @@ mutual
   computes_temporaries (of_difference first second) are = temporaries second (temporaries first are)
 
 -- ---- steps from one point to another
-abbrev pub goal_of : Stage → ℕ
-goal_of (stage a n k) = a
-
 -- the run comes from one point to another, with the choices that are left
 pub record Leads (g : Graph) (heap : Heap) (a : ℕ) (vars : Vars) (choices : List Choice) (b : ℕ) (later : Vars) (left : List Choice) : Type 0 where
   pub goes : (r : Result) → Goes (FlowStep g) (at b later heap) left r → Goes (FlowStep g) (at a vars heap) choices r

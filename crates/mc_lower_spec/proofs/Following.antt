@@ -12,16 +12,15 @@ use Rattle.mc_flow.specs.declared.instr.Instr.TheVariants.{Skip, Copy, Undef, En
 use Rattle.mc_flow.specs.Steps as flow
 use Rattle.mc_semantics.specs.Resolved.Programs.{Cond, plain as plain_cond, compare, negation, both, either, Action, assign, add, subtract, call, Simple, Start, nothing, declares, performs as begins, Function, Stmt, declaration, block, empty, simple, free, assert, assume, assume_shape, assert_shape, assert_empty, if_only, if_else, while_loop, do_loop, for_loop, break_loop, continue_loop, returns, Stmts, no_more, then}
 use Rattle.mc_semantics.specs.Resolved.Configs as source
-use Rattle.mc_semantics.specs.Resolved.Configs.{Values, held, without, Target, stored, returned, perform, again, test, always, end_block, end_loop, end_turn, end_call, take_result, Task, Tasks, done, task, Branch, go_on, fails, stops, Config}
+use Rattle.mc_semantics.specs.Resolved.Configs.{Values, Target, stored, returned, perform, again, test, always, end_block, end_loop, end_turn, end_call, take_result, Task, Tasks, done, task, Branch, go_on, fails, stops, Config}
 use Rattle.mc_semantics.specs.Resolved.Moves.{in_a_row, finished}
 use Rattle.mc_lower_spec.specs.Graphs.{Graph, result, Role, plain, head, merge, stop, Stage, stage, point, nowhere, IsPoint, Appends, appends, IsMade, AreMade, Undefines, Leaves}
 use Rattle.mc_lower_spec.specs.Values.{Tests, Puts}
 use Rattle.mc_lower_spec.specs.Lowering.{Around, in_block, in_loop, in_body, Lowers, LowersAll, lowers_none, lowers_next, Finishes, Falls}
 use Rattle.mc_lower_spec.specs.Scopes.{IsIn, IsScopedIn, AreScopedIn, FinishesIn}
 use Rattle.mc_lower_spec.proofs.Stepping.{Vars, at}
-use Rattle.mc_lower_spec.proofs.Evaluating.{goal_of}
+use Rattle.mc_lower_spec.proofs.Stages.{goal_of, points_of, variables_of}
 use Rattle.mc_lower_spec.proofs.Holding.{Limit, limit, AreLate, IsLate, Frame, Held, with_values, rescoped}
-use Rattle.mc_lower_spec.proofs.Growing.{points_of, variables_of, lowered}
 
 -- ---- parts of loops
 abbrev pub GoesOn : Role → Type 0

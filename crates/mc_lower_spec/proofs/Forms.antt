@@ -10,8 +10,8 @@ use Rattle.mc_flow.specs.Heap.Choices.{Choice}
 use Rattle.mc_flow.specs.Values.{with_value}
 use Rattle.mc_flow.specs.declared.instr.Instr.TheVariants.{Copy, End}
 use Rattle.mc_semantics.specs.Values.{fault_of, value_of}
-use Rattle.mc_semantics.specs.Resolved.Programs.{Cond, Expr, Right, expression, result_of, allocation, Stmt, block, empty, simple, free, assert, assume, if_only, if_else, while_loop, do_loop, for_loop, returns, Stmts}
-use Rattle.mc_semantics.specs.Resolved.Configs.{Values, with_variable, perform, again, test, end_block, end_loop, end_turn, Tasks, done, task, go_on, fails, stops, Result}
+use Rattle.mc_semantics.specs.Resolved.Programs.{Expr, Right, expression, result_of, allocation, Stmt, block, empty, simple, free, assert, assume, if_only, if_else, while_loop, do_loop, for_loop, returns}
+use Rattle.mc_semantics.specs.Resolved.Configs.{Values, with_variable, perform, test, end_block, end_loop, end_turn, Tasks, done, task, go_on, fails, stops}
 use Rattle.mc_semantics.specs.Resolved.Moves.{in_a_row, started}
 use Rattle.mc_semantics.specs.Resolved.Steps.{Step, Returns, gone_back}
 use Rattle.mc_lower_spec.specs.Graphs.{Graph, Owner, result, plain, Stage, stage, point, nowhere, IsPoint, appends, IsMade, is_made}
@@ -21,13 +21,14 @@ use Rattle.mc_lower_spec.specs.Runs.{FlowStep}
 use Rattle.mc_lower_spec.specs.Scopes.{IsScopedIn, AreScoped}
 use Rattle.mc_lower_spec.proofs.Simulating.{Goes, one, more, both_end, both_wait}
 use Rattle.mc_lower_spec.proofs.Stepping.{Vars, at, step_at}
-use Rattle.mc_lower_spec.proofs.Evaluating.{not_temporary, goal_of, set_here}
+use Rattle.mc_lower_spec.proofs.Stages.{goal_of, points_of, variables_of}
+use Rattle.mc_lower_spec.proofs.Evaluating.{not_temporary, set_here}
 use Rattle.mc_lower_spec.proofs.Setting.{Uses, IsSet, set_waits, set_faults, set_gives, setting}
 use Rattle.mc_lower_spec.proofs.Allocating.{IsAllocated, allocated_waits, allocated, allocates}
 use Rattle.mc_lower_spec.proofs.Freeing.{freeing}
 use Rattle.mc_lower_spec.proofs.Performing.{one_set}
 use Rattle.mc_lower_spec.proofs.Holding.{AreOnce, Limit, Frame, Held}
-use Rattle.mc_lower_spec.proofs.Growing.{points_of, variables_of, appended, undefined, left, on, tested, tested_perhaps, all_lowered, lowered, started as start_grown, finished as last_grown}
+use Rattle.mc_lower_spec.proofs.Growing.{appended, undefined, left, tested, tested_perhaps, lowered, started as start_grown, finished as last_grown}
 use Rattle.mc_lower_spec.proofs.Following.{no_skip, skip_ahead, asks, IsLoop, is_loop, IsWithin, within_less, frame_of, outer_limits, loop_tasks, Follows, over, performs, skips, raises, ends_block, agains, ends_turn, ends_loop, ends_call, takes_stored, takes_returned, wants, leads, leads_to_fault, leads_to_stop, Match, match, match_test, match_always, match_taking, match_end, weight, weight_in_a_row, follows_in_a_row, held_raised}
 use Rattle.mc_lower_spec.proofs.Entering.{block_entered, loop_entered}
 use Rattle.mc_lower_spec.proofs.Walking.{ToOut, to_out}

@@ -25,7 +25,8 @@ use Rattle.mc_lower_spec.specs.Values.{Operation, a_sum, a_difference, sets, Eva
 use Rattle.mc_lower_spec.specs.Runs.{FlowStep}
 use Rattle.mc_lower_spec.proofs.Simulating.{Goes, one}
 use Rattle.mc_lower_spec.proofs.Stepping.{Vars, at, step_at, Comes, Operates, op_waits, op_faults, op_gives, operates}
-use Rattle.mc_lower_spec.proofs.Evaluating.{AreTemporaries, no_temporaries, not_temporary, OnlyNew, Agree, agree_later, goal_of, Leads, Ended, ended_waits, ended_faults, ended_gives, evaluating, temporaries}
+use Rattle.mc_lower_spec.proofs.Stages.{goal_of}
+use Rattle.mc_lower_spec.proofs.Evaluating.{AreTemporaries, no_temporaries, not_temporary, OnlyNew, Agree, agree_later, Leads, Ended, ended_waits, ended_faults, ended_gives, evaluating, temporaries}
 use Rattle.mc_lower_spec.proofs.Changing.{IsClean, cleaned, undefines_goes}
 use Rattle.mc_lower_spec.proofs.Storing.{Stores, stores_faults, stores_gives, IsPut, put_faults, put_gives, stored_put}
 use Rattle.mc_lower_spec.proofs.Performing.{Settable, IsPerformed, performed_waits, performed_faults, performed, nothing_set, one_set}

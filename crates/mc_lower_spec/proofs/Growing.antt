@@ -2,25 +2,20 @@
 use Rattle.std.proofs.Common.{◌≤◌, ℕ, List, Option, arith}
 use Rattle.mc_base.specs.declared.ids.VarId.{VarId}
 use Rattle.mc_base.specs.declared.plain.Kind.{Kind}
-use Rattle.mc_base.specs.declared.plain.VarInfo.{VarInfo}
-use Rattle.mc_c_syntax.specs.declared.ast.trees.Comparison.{Comparison}
 use Rattle.mc_base.specs.declared.text.place.Place.{Place}
 use Rattle.mc_base.specs.declared.ids.PointId.{PointId}
 use Rattle.mc_flow.specs.declared.instr.Instr.{Instr}
 use Rattle.mc_flow.specs.declared.instr.Operand.{Operand}
-use Rattle.mc_semantics.specs.Resolved.Programs.{FieldAt, Left, Expr, Cond, Call, Right, Action, Simple, Initial, Start, Stmt, Stmts, Function}
-use Rattle.mc_lower_spec.specs.Graphs.{Graph, Owner, Role, Stage, stage, Appends, appends, Undefines, undefines_none, undefines, Creates, creates, Uses, uses_first, uses_again, Leaves, leaves}
-use Rattle.mc_lower_spec.specs.Values.{Operation, Takes, takes, Walks, walks_none, walks, Evaluates, of_number, of_variable, of_operation, Computes, of_input, of_field, of_minus, of_times, of_plus, of_difference, EvaluatesAll, evaluates_none, evaluates_next, Compares, compares, Tests, tests_plain, tests_compare, tests_negation, tests_both, tests_either, TestsPerhaps, tests_always, tests_once, Puts, puts_variable, puts_field}
-use Rattle.mc_lower_spec.specs.Lowering.{Around, SetsTo, sets_operand, sets_computed, sets_allocated, Assigns, assigns_variable, assigns_field, assigns_allocated, Changes, changes_variable, changes_field}
-use Rattle.mc_lower_spec.specs.Lowering.{Receives, receives_none, receives, Passes, passes_none, passes, Awaits, awaits_none, awaits, Calls, calls, Performs, performs_assign, performs_result, performs_add, performs_subtract, performs_call}
-use Rattle.mc_lower_spec.specs.Lowering.{Declares, declares_none, declares_undefined, declares_value, Starts, starts_nothing, starts_declaring, starts_performing, Finishes, finishes_none, finishes}
-use Rattle.mc_lower_spec.specs.Lowering.{Lowers, declarations, blocks, empties, simples, frees, asserts, assumes, shapes_assumed, shapes_asserted, emptiness_asserted, ifs, ifs_else, whiles, dos, fors, breaks, continues, returns_nothing, returns_value, returns_result, LowersAll, lowers_none, lowers_next}
-
-abbrev pub points_of : Stage → ℕ
-points_of (stage a n k) = n
-
-abbrev pub variables_of : Stage → ℕ
-variables_of (stage a n k) = k
+use Rattle.mc_semantics.specs.Resolved.Programs.{Left, Expr, Cond, Call, Action, Simple, Initial, Start, Stmt, Stmts, Function}
+use Rattle.mc_lower_spec.proofs.Owning as owning
+use Rattle.mc_lower_spec.proofs.Owning.{IsOwned, occurrence}
+use Rattle.mc_lower_spec.proofs.Stages.{points_of, variables_of}
+use Rattle.mc_lower_spec.specs.Graphs.{Graph, Role, Stage, Appends, Undefines, Leaves}
+use Rattle.mc_lower_spec.specs.Values.{EvaluatesAll, Tests, TestsPerhaps, Puts}
+use Rattle.mc_lower_spec.specs.Lowering.{Around}
+use Rattle.mc_lower_spec.specs.Lowering.{Receives, Passes, Awaits, Calls, Performs}
+use Rattle.mc_lower_spec.specs.Lowering.{Declares, Starts, Finishes}
+use Rattle.mc_lower_spec.specs.Lowering.{Lowers, LowersAll}
 
 pub record IsGrown (p v n k : ℕ) : Type 0 where
   pub points : p ≤ n
@@ -32,153 +27,59 @@ Grows s u = IsGrown (points_of s) (variables_of s) (points_of u) (variables_of u
 abbrev pub GrowsTo : Stage → (n k : ℕ) → Type 0
 GrowsTo s n k = IsGrown (points_of s) (variables_of s) n k
 
-pub same : (s : Stage) → Grows s s
-same s = record { points = omega arith; variables = omega arith }
-
 pub on : {p v m l n k : ℕ} → IsGrown p v m l → IsGrown m l n k → IsGrown p v n k
 on first second = record { points = omega (arith, first.points, second.points); variables = omega (arith, first.variables, second.variables) }
 
+grown : {g : Graph} {out p v n k : ℕ} → IsOwned occurrence g out p v n k → IsGrown p v n k
+grown owns = record { points = owns.points; variables = owns.variables }
+
 pub appended : {g : Graph} {role : Role} {place : Place} {code : PointId → Instr} {s u : Stage} → Appends g role place code s u → Grows s u
-appended (appends is) = record { points = omega arith; variables = omega arith }
+appended is = grown (owning.appended {out = 0} is)
 
 pub undefined : {g : Graph} {place : Place} {vs : List VarId} {s u : Stage} → Undefines g place vs s u → Grows s u
-undefined {s = s} undefines_none = same s
-undefined (undefines is) = appended is
+undefined is = grown (owning.undefined {out = 0} is)
 
 pub left : {g : Graph} {out : ℕ} {place : Place} {xs : List ℕ} {s u : Stage} → Leaves g out place xs s u → Grows s u
-left (leaves made undone) = undefined undone
-
-created : {g : Graph} {owner : Owner} {info : VarInfo} {s u : Stage} {v : VarId} → Creates g owner info s v u → Grows s u
-created (creates owned info) = record { points = omega arith; variables = omega arith }
-
-used : {g : Graph} {j : ℕ} {kind : Kind} {s u : Stage} {v : VarId} → Uses g j kind s v u → Grows s u
-used (uses_first is) = created is
-used {s = s} (uses_again is) = same s
-
-taken : {g : Graph} {place : Place} {kind : Kind} {operation : Operation} {ts us : List VarId} {s u : Stage} {t : VarId} → Takes g place kind operation ts s t us u → Grows s u
-taken (takes uses is) = on (used uses) (appended is)
-
-walked : {g : Graph} {place : Place} {y z : VarId} {fs : List FieldAt} {ts us : List VarId} {s u : Stage} {last : FieldAt} → Walks g place y fs ts s z last us u → Grows s u
-walked {s = s} walks_none = same s
-walked (walks kind first rest) = on (taken first) (walked rest)
-
-mutual
-  pub evaluated : {g : Graph} {out : ℕ} {place : Place} {e : Expr} {ts us : List VarId} {s u : Stage} {o : Operand} → Evaluates g out place e ts s o us u → Grows s u
-  evaluated {s = s} of_number = same s
-  evaluated {s = s} (of_variable made) = same s
-  evaluated (of_operation first rest) = on (computed first) (taken rest)
-
-  computed : {g : Graph} {out : ℕ} {place : Place} {e : Expr} {ts us : List VarId} {s u : Stage} {kind : Kind} {operation : Operation} → Computes g out place e ts s kind operation us u → Grows s u
-  computed {s = s} of_input = same s
-  computed (of_field made walk kind) = walked walk
-  computed (of_minus first) = evaluated first
-  computed (of_times first second) = on (evaluated first) (evaluated second)
-  computed (of_plus first second) = on (evaluated first) (evaluated second)
-  computed (of_difference first second) = on (evaluated first) (evaluated second)
+left is = grown (owning.left {out = 0} is)
 
 pub all_evaluated : {g : Graph} {out : ℕ} {place : Place} {es : List Expr} {ts us : List VarId} {s u : Stage} {os : List Operand} → EvaluatesAll g out place es ts s os us u → Grows s u
-all_evaluated {s = s} evaluates_none = same s
-all_evaluated (evaluates_next first rest) = on (evaluated first) (all_evaluated rest)
-
-compared : {g : Graph} {place : Place} {c : Comparison} {a b : Operand} {ts : List VarId} {s : Stage} {t f n k : ℕ} → Compares g place c a b ts s t f n k → GrowsTo s n k
-compared (compares is first second) =
-    let one = undefined first in
-    let two = undefined second in
-    record { points = omega (arith, one.points, two.points); variables = omega (arith, one.variables, two.variables) }
+all_evaluated is = grown (owning.all_evaluated {out = 0} is)
 
 pub tested : {g : Graph} {out : ℕ} {c : Cond} {s : Stage} {t f n k : ℕ} → Tests g out c s t f n k → GrowsTo s n k
-tested (tests_plain first test) = on (evaluated first) (compared test)
-tested (tests_compare first second test) = on (evaluated first) (on (evaluated second) (compared test))
-tested (tests_negation test) = tested test
-tested (tests_both {a = a} {m = m} {j = j} first second) = on (tested first) (tested second)
-tested (tests_either {a = a} {m = m} {j = j} first second) = on (tested first) (tested second)
+tested is = grown (owning.tested {out = 0} is)
 
 pub tested_perhaps : {g : Graph} {out : ℕ} {c : Option Cond} {s : Stage} {t f n k : ℕ} → TestsPerhaps g out c s t f n k → GrowsTo s n k
-tested_perhaps tests_always = record { points = omega arith; variables = omega arith }
-tested_perhaps (tests_once test) = tested test
+tested_perhaps is = grown (owning.tested_perhaps {out = 0} is)
 
 pub put : {g : Graph} {out : ℕ} {place : Place} {l : Left} {o : Operand} {ts : List VarId} {s u : Stage} → Puts g out place l o ts s u → Grows s u
-put (puts_variable made is undone) = on (appended is) (undefined undone)
-put (puts_field made walk is undone) = on (walked walk) (on (appended is) (undefined undone))
-
-pub set : {g : Graph} {out : ℕ} {place : Place} {v : VarId} {right : Right} {s u : Stage} → SetsTo g out place v right s u → Grows s u
-set (sets_operand value is) = appended is
-set (sets_computed value is undone) = on (computed value) (on (appended is) (undefined undone))
-set (sets_allocated count is) = appended is
-
-assigned : {g : Graph} {out : ℕ} {place : Place} {l : Left} {right : Right} {s u : Stage} → Assigns g out place l right s u → Grows s u
-assigned (assigns_variable made sets) = set sets
-assigned (assigns_field value puts) = on (evaluated value) (put puts)
-assigned (assigns_allocated count uses is puts) = on (used uses) (on (appended is) (put puts))
-
-changed : {g : Graph} {out : ℕ} {place : Place} {operation : Operand → Operand → Operation} {l : Left} {e : Expr} {s u : Stage} → Changes g out place operation l e s u → Grows s u
-changed (changes_variable value made is undone) = on (evaluated value) (on (appended is) (undefined undone))
-changed (changes_field value made walk kind loads computes is undone) =
-    on (evaluated value) (on (walked walk) (on (taken loads) (on (taken computes) (on (appended is) (undefined undone)))))
+put is = grown (owning.put {out = 0} is)
 
 pub received : {g : Graph} {f : Function} {out x parameters : ℕ} {s u : Stage} {vs : List VarId} → Receives g f out x parameters s vs u → Grows s u
-received {s = s} receives_none = same s
-received (receives is makes rest) = on (created makes) (received rest)
+received is = grown (owning.received is)
 
 pub passed : {g : Graph} {place : Place} {vs : List VarId} {os : List Operand} {s u : Stage} → Passes g place vs os s u → Grows s u
-passed {s = s} passes_none = same s
-passed (passes is rest) = on (appended is) (passed rest)
+passed is = grown (owning.passed {out = 0} is)
 
 pub awaited : {g : Graph} {out : ℕ} {place : Place} {kind : Option Kind} {s u : Stage} {v : Option VarId} → Awaits g out place kind s v u → Grows s u
-awaited {s = s} awaits_none = same s
-awaited (awaits makes is) = on (created makes) (appended is)
+awaited is = grown (owning.awaited is)
 
-mutual
-  pub called : {g : Graph} {out : ℕ} {place : Place} {c : Call} {s u : Stage} {ret : Option VarId} → Calls g out place c s ret u → Grows s u
-  called (calls is parameters values copies undone waiting body made ends) =
-      on (received parameters) (on (all_evaluated values) (on (passed copies) (on (undefined undone) (on (awaited waiting) (on (all_lowered body) (appended ends))))))
+pub called : {g : Graph} {out : ℕ} {place : Place} {c : Call} {s u : Stage} {ret : Option VarId} → Calls g out place c s ret u → Grows s u
+called is = grown (owning.called {out = 0} is)
 
-  pub performed : {g : Graph} {out : ℕ} {place : Place} {action : Action} {s u : Stage} → Performs g out place action s u → Grows s u
-  performed (performs_assign assigns) = assigned assigns
-  performed (performs_result inner puts undone) = on (called inner) (on (put puts) (undefined undone))
-  performed (performs_add changes) = changed changes
-  performed (performs_subtract changes) = changed changes
-  performed (performs_call inner) = called inner
+pub performed : {g : Graph} {out : ℕ} {place : Place} {action : Action} {s u : Stage} → Performs g out place action s u → Grows s u
+performed is = grown (owning.performed {out = 0} is)
 
-  pub declared : {g : Graph} {f : Function} {out : ℕ} {place : Place} {items : List Initial} {s u : Stage} → Declares g f out place items s u → Grows s u
-  declared {s = s} declares_none = same s
-  declared (declares_undefined is makes undone rest) = on (created makes) (on (appended undone) (declared rest))
-  declared (declares_value is makes performs rest) = on (created makes) (on (performed performs) (declared rest))
+pub declared : {g : Graph} {f : Function} {out : ℕ} {place : Place} {items : List Initial} {s u : Stage} → Declares g f out place items s u → Grows s u
+declared is = grown (owning.declared is)
 
-  pub started : {g : Graph} {f : Function} {out : ℕ} {start : Start} {s u : Stage} → Starts g f out start s u → Grows s u
-  started {s = s} starts_nothing = same s
-  started (starts_declaring declares) = declared declares
-  started (starts_performing performs) = performed performs
+pub started : {g : Graph} {f : Function} {out : ℕ} {start : Start} {s u : Stage} → Starts g f out start s u → Grows s u
+started is = grown (owning.started is)
 
-  pub finished : {g : Graph} {out : ℕ} {last : Option Simple} {s u : Stage} → Finishes g out last s u → Grows s u
-  finished {s = s} finishes_none = same s
-  finished (finishes performs) = performed performs
+pub finished : {g : Graph} {out : ℕ} {last : Option Simple} {s u : Stage} → Finishes g out last s u → Grows s u
+finished is = grown (owning.finished {out = 0} is)
 
-  pub lowered : {g : Graph} {c : Around} {a : Stmt} {s u : Stage} → Lowers g c a s u → Grows s u
-  lowered (declarations declares) = declared declares
-  lowered (blocks body leave) = on (all_lowered body) (left leave)
-  lowered {s = s} empties = same s
-  lowered (simples performs) = performed performs
-  lowered (frees value is undone) = on (evaluated value) (on (appended is) (undefined undone))
-  lowered (asserts test is) = let t = tested test in record { points = omega (arith, t.points); variables = t.variables }
-  lowered (assumes test is) = let t = tested test in record { points = omega (arith, t.points); variables = t.variables }
-  lowered (shapes_assumed made args is) = appended is
-  lowered (shapes_asserted value args is) = appended is
-  lowered (emptiness_asserted is) = appended is
-  lowered (ifs {t = t} {m = m} {k = k} test body is) = on (tested test) (on (lowered body) (appended is))
-  lowered (ifs_else {t = t} {f = f} {m = m} {k = k} {i = i} {j = j} test first second is) =
-      on (on (tested test) (lowered first)) (on (lowered second) (appended is))
-  lowered (whiles {t = t} {m = m} {i = i} is test body ends) = on (appended is) (on (tested test) (on (lowered body) (appended ends)))
-  lowered (dos {e = e} {l = l} is body turn test ends) =
-      on (appended is) (on (lowered body) (on (appended turn) (on (tested test) (appended ends))))
-  lowered (fors {t = t} {p = p} {y = y} start is test body turn last ends leave) =
-      on (started start) (on (appended is) (on (tested_perhaps test) (on (lowered body) (on (appended turn) (on (finished last) (on (appended ends) (left leave)))))))
-  lowered (breaks is leave) = let h = left leave in record { points = h.points; variables = h.variables }
-  lowered (continues is leave) = let h = left leave in record { points = h.points; variables = h.variables }
-  lowered returns_nothing = record { points = omega arith; variables = omega arith }
-  lowered (returns_value made sets) = let h = set sets in record { points = h.points; variables = h.variables }
-  lowered (returns_result made inner is undone) = let h = on (called inner) (on (appended is) (undefined undone)) in record { points = h.points; variables = h.variables }
+pub lowered : {g : Graph} {c : Around} {a : Stmt} {s u : Stage} → Lowers g c a s u → Grows s u
+lowered is = grown (owning.lowered is)
 
-  pub all_lowered : {g : Graph} {c : Around} {ss : Stmts} {s u : Stage} → LowersAll g c ss s u → Grows s u
-  all_lowered {s = s} lowers_none = same s
-  all_lowered (lowers_next first rest) = on (lowered first) (all_lowered rest)
+pub all_lowered : {g : Graph} {c : Around} {ss : Stmts} {s u : Stage} → LowersAll g c ss s u → Grows s u
+all_lowered is = grown (owning.all_lowered is)

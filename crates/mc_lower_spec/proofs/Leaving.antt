@@ -13,10 +13,11 @@ use Rattle.mc_semantics.specs.Resolved.Programs.{Function}
 use Rattle.mc_lower_spec.specs.Graphs.{Graph, local, result, temporary, Stage, stage, AreMade, IsMade, is_made}
 use Rattle.mc_lower_spec.specs.Lowering.{Around}
 use Rattle.mc_lower_spec.proofs.Stepping.{Vars, at}
-use Rattle.mc_lower_spec.proofs.Evaluating.{Agree, goal_of}
+use Rattle.mc_lower_spec.proofs.Stages.{goal_of}
+use Rattle.mc_lower_spec.proofs.Evaluating.{Agree}
 use Rattle.mc_lower_spec.proofs.Changing.{IsClean, length_set, length_without, in_or_not, without_in, without_out, same_number, past_none}
 use Rattle.mc_lower_spec.proofs.Holding.{Limit, limit, IsLate, Frame, FrameHeld, AllHeld, IsInside, AreNested, IsNone, Held, inside_none, AreTheirs, frames_kept, kept_apart, same_out, no_result, no_temporary, one_owner, out_of, sort_of, var_at}
-use Rattle.mc_lower_spec.proofs.Following.{below, frame_of, IsResult, TakesResult, takes_stored, takes_returned, Wants, wants_nothing, wants, IsWithin, Follows, Match, match, match_taking, held_raised}
+use Rattle.mc_lower_spec.proofs.Following.{below, frame_of, IsResult, takes_stored, takes_returned, Wants, wants_nothing, wants, IsWithin, Follows, Match, match, match_taking, held_raised}
 
 -- ---- the numbers below another one
 pub in_below : (n x : ℕ) → x < n → Contains (below n) x

@@ -2,7 +2,6 @@ pub mod Counting
 pub mod Firsts
 pub mod Least
 pub mod Most
-pub mod Owning
 pub mod Seen
 pub mod Stepping
 pub mod Tabling

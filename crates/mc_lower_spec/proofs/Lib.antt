@@ -18,6 +18,8 @@ pub mod Adding
 pub mod Arguing
 pub mod Holding
 pub mod Growing
+pub mod Owning
+pub mod Stages
 pub mod Following
 pub mod Entering
 pub mod Walking

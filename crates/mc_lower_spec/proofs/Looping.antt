@@ -7,7 +7,7 @@ use Rattle.mc_flow.specs.Heap.Heap.{Heap}
 use Rattle.mc_flow.specs.Heap.Choices.{Choice}
 use Rattle.mc_flow.specs.Values.{without as flow_without}
 use Rattle.mc_flow.specs.declared.instr.Instr.TheVariants.{Skip}
-use Rattle.mc_semantics.specs.Resolved.Programs.{Cond, Simple, Start, Stmt, simple, declaration, while_loop, do_loop, for_loop, break_loop, continue_loop, Head}
+use Rattle.mc_semantics.specs.Resolved.Programs.{Cond, Simple, Start, Stmt, simple, declaration, break_loop, continue_loop}
 use Rattle.mc_semantics.specs.Resolved.Programs as source
 use Rattle.mc_semantics.specs.Resolved.Configs.{Values, perform, test, always, end_loop, end_turn, Tasks, done, task, go_on}
 use Rattle.mc_semantics.specs.Resolved.Moves.{finished, started}
@@ -16,9 +16,8 @@ use Rattle.mc_lower_spec.specs.Values.{TestsPerhaps, tests_always, tests_once}
 use Rattle.mc_lower_spec.specs.Lowering.{Loop, Around, in_loop, Lowers, declarations, simples, Starts, starts_nothing, starts_declaring, starts_performing, Finishes, finishes_none, finishes}
 use Rattle.mc_lower_spec.specs.Scopes.{IsScopedIn, StartsIn, FinishesIn}
 use Rattle.mc_lower_spec.proofs.Stepping.{Vars}
-use Rattle.mc_lower_spec.proofs.Evaluating.{goal_of}
+use Rattle.mc_lower_spec.proofs.Stages.{goal_of, points_of, variables_of}
 use Rattle.mc_lower_spec.proofs.Holding.{Limit, Frame, Held, AreTheirs, AreUndone, undone_held}
-use Rattle.mc_lower_spec.proofs.Growing.{points_of, variables_of}
 use Rattle.mc_lower_spec.proofs.Following.{Skips, skip_ahead, Asks, asks, asks_nothing, IsLoop, is_loop, Exits, exits, IsWithin, within_less, frame_of, around_loop, outer_limits, loop_tasks, Follows, performs, skips, agains, ends_turn, ends_loop, leads, match, match_test, match_always, weight, start_weight, calls_at, limited, no_late}
 use Rattle.mc_lower_spec.proofs.Entering.{theirs}
 use Rattle.mc_lower_spec.proofs.Walking.{to_turn}

@@ -19,10 +19,9 @@ use Rattle.mc_lower_spec.specs.Runs.{FlowStep, told}
 use Rattle.mc_lower_spec.proofs.Simulating.{Goes, one, more, Paired, both_go, source_moves, flow_goes, both_end, both_wait}
 use Rattle.mc_lower_spec.proofs.SourceOnce.{one_arrival}
 use Rattle.mc_lower_spec.proofs.Stepping.{Vars, at, step_at}
-use Rattle.mc_lower_spec.proofs.Evaluating.{goal_of}
+use Rattle.mc_lower_spec.proofs.Stages.{goal_of, variables_of}
 use Rattle.mc_lower_spec.proofs.Deciding.{IsDecided, decided_waits, decided_faults, decided_true, decided_false, decides_plain, decides_compare}
 use Rattle.mc_lower_spec.proofs.Holding.{Limit, Frame, Held, with_values, AreTheirs, undone_held, without_undone, in_left}
-use Rattle.mc_lower_spec.proofs.Growing.{variables_of}
 use Rattle.mc_lower_spec.proofs.Following.{GoesOn, Skips, no_skip, one_skip, Exits, exits, frame_of, around_loop, outer_limits, Follows, Leads, leads, leads_to_test, leads_to_fault, leads_to_stop, Match, match, match_test, weight}
 use Rattle.mc_lower_spec.proofs.Entering.{block_left, loop_left, theirs}
 

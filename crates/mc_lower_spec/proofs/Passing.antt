@@ -26,12 +26,13 @@ use Rattle.mc_lower_spec.specs.Values.{Evaluates, of_number, of_variable, of_ope
 use Rattle.mc_lower_spec.specs.Lowering.{Receives, receives_none, receives, Passes, passes_none, passes}
 use Rattle.mc_lower_spec.specs.Runs.{FlowStep}
 use Rattle.mc_lower_spec.proofs.Simulating.{Goes, one}
-use Rattle.mc_lower_spec.proofs.SourceOnce.{one_value}
+use Rattle.mc_semantics.proofs.ResolvedLemmas.Values.{one_value}
 use Rattle.mc_lower_spec.proofs.Stepping.{Vars, at, Never, step_at}
-use Rattle.mc_lower_spec.proofs.Evaluating.{AreTemporaries, OnlyNew, nothing_new, both_new, Agree, agree_later, goal_of, Leads, leads_on, stays, Ended, ended_waits, ended_faults, ended_gives, evaluating, temporaries, grows, Kept, kept, kept_value, set_here, set_elsewhere, used_owner}
+use Rattle.mc_lower_spec.proofs.Stages.{goal_of, variables_of}
+use Rattle.mc_lower_spec.proofs.Evaluating.{AreTemporaries, OnlyNew, nothing_new, both_new, Agree, agree_later, Leads, leads_on, stays, Ended, ended_waits, ended_faults, ended_gives, evaluating, temporaries, grows, Kept, kept, kept_value, set_here, set_elsewhere, used_owner}
 use Rattle.mc_lower_spec.proofs.Changing.{IsClean, length_set, length_without, same_list, same_variable, in_or_not, without_in, without_out}
 use Rattle.mc_lower_spec.proofs.Holding.{AreOnce, Frame, AllHeld, IsNone, frames_apart, same_local}
-use Rattle.mc_lower_spec.proofs.Growing.{variables_of, received}
+use Rattle.mc_lower_spec.proofs.Growing.{received}
 
 -- ---- all arguments
 pub data AllEnded (g : Graph) (h : Here) (es : List Expr) (place : Place) (ts us : List VarId) (os : List Operand) (a b : ℕ) (vars : Vars) (choices : List Choice) : Type 0 where

@@ -20,7 +20,8 @@ use Rattle.mc_lower_spec.specs.Lowering.{Assigns as LowersTo, assigns_variable, 
 use Rattle.mc_lower_spec.specs.Runs.{FlowStep}
 use Rattle.mc_lower_spec.proofs.Simulating.{Goes}
 use Rattle.mc_lower_spec.proofs.Stepping.{Vars, at, Never}
-use Rattle.mc_lower_spec.proofs.Evaluating.{AreTemporaries, no_temporaries, not_temporary, OnlyNew, Agree, agree_later, goal_of, Leads, Ended, ended_waits, ended_faults, ended_gives, evaluating, temporaries, kept}
+use Rattle.mc_lower_spec.proofs.Stages.{goal_of}
+use Rattle.mc_lower_spec.proofs.Evaluating.{AreTemporaries, no_temporaries, not_temporary, OnlyNew, Agree, agree_later, Leads, Ended, ended_waits, ended_faults, ended_gives, evaluating, temporaries, kept}
 use Rattle.mc_lower_spec.proofs.Changing.{IsClean}
 use Rattle.mc_lower_spec.proofs.Setting.{Uses, IsSet, set_waits, set_faults, set_gives, setting}
 use Rattle.mc_lower_spec.proofs.Storing.{IsPut, put_faults, put_gives, putting}

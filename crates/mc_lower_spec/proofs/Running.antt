@@ -15,9 +15,9 @@ use Rattle.mc_lower_spec.proofs.Simulating.{alike, longer, left_of_one}
 use Rattle.mc_lower_spec.proofs.SourceOnce.{source_once}
 use Rattle.mc_lower_spec.proofs.FlowOnce.{flow_once}
 use Rattle.mc_lower_spec.proofs.Stepping.{Vars, at}
-use Rattle.mc_lower_spec.proofs.Evaluating.{goal_of}
+use Rattle.mc_lower_spec.proofs.Stages.{goal_of, points_of}
 use Rattle.mc_lower_spec.proofs.Holding.{Held}
-use Rattle.mc_lower_spec.proofs.Growing.{points_of, appended}
+use Rattle.mc_lower_spec.proofs.Growing.{appended}
 use Rattle.mc_lower_spec.proofs.Following.{Match, match, over, frame_of, follows_in_a_row, no_late, weight}
 use Rattle.mc_lower_spec.proofs.Pairing.{skip_step}
 use Rattle.mc_lower_spec.proofs.Forms.{pairs}

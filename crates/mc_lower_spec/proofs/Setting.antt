@@ -22,7 +22,8 @@ use Rattle.mc_lower_spec.specs.Lowering.{SetsTo, sets_operand, sets_computed}
 use Rattle.mc_lower_spec.specs.Runs.{FlowStep}
 use Rattle.mc_lower_spec.proofs.Simulating.{Goes, one}
 use Rattle.mc_lower_spec.proofs.Stepping.{Vars, at, Never, step_at, Operates, op_waits, op_faults, op_gives, operates}
-use Rattle.mc_lower_spec.proofs.Evaluating.{AreTemporaries, no_temporaries, OnlyNew, Agree, goal_of, Leads, Ended, ended_waits, ended_faults, ended_gives, Ready, ready_waits, ready_faults, ready, evaluating, computing, computes_temporaries}
+use Rattle.mc_lower_spec.proofs.Stages.{goal_of}
+use Rattle.mc_lower_spec.proofs.Evaluating.{AreTemporaries, no_temporaries, OnlyNew, Agree, Leads, Ended, ended_waits, ended_faults, ended_gives, Ready, ready_waits, ready_faults, ready, evaluating, computing, computes_temporaries}
 use Rattle.mc_lower_spec.proofs.Changing.{IsClean, cleaned, same_list, undefines_goes}
 
 -- ---- a variable is set

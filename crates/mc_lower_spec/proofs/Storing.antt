@@ -23,7 +23,8 @@ use Rattle.mc_lower_spec.specs.Values.{struct_at, Walks, walks_none, walks}
 use Rattle.mc_lower_spec.specs.Runs.{FlowStep}
 use Rattle.mc_lower_spec.proofs.Simulating.{Goes, one}
 use Rattle.mc_lower_spec.proofs.Stepping.{Vars, at, step_at}
-use Rattle.mc_lower_spec.proofs.Evaluating.{AreTemporaries, OnlyNew, both_new, goal_of, Leads, Walked, walked_faults, walked, walking, walk_temporaries, walk_grows, base_value, Kept, kept_value}
+use Rattle.mc_lower_spec.proofs.Stages.{goal_of}
+use Rattle.mc_lower_spec.proofs.Evaluating.{AreTemporaries, OnlyNew, both_new, Leads, Walked, walked_faults, walked, walking, walk_temporaries, walk_grows, base_value, Kept, kept_value}
 use Rattle.mc_lower_spec.proofs.Changing.{IsClean, restored, undefines_goes}
 
 -- ---- the Store itself

@@ -5,15 +5,15 @@ use Rattle.mc_flow.specs.declared.instr.Instr.TheVariants.{Undef, End}
 use Rattle.mc_semantics.specs.Resolved.Programs.{Cond, Simple, Stmt, Function}
 use Rattle.mc_base.specs.declared.ids.VarId.{VarId}
 use Rattle.mc_base.specs.declared.text.place.Place.{Place}
-use Rattle.mc_lower_spec.proofs.Evaluating.{goal_of}
+use Rattle.mc_lower_spec.proofs.Stages.{goal_of, variables_of}
 use Rattle.mc_semantics.specs.Resolved.Configs.{Values, Target, held, without, perform, end_block, end_loop, end_turn, Tasks, done, task}
 use Rattle.mc_semantics.specs.Resolved.Moves.{finished, behind_loop, at_turn, given}
 use Rattle.mc_semantics.specs.Resolved.Steps.{returning}
 use Rattle.mc_lower_spec.specs.Graphs.{Graph, plain, nowhere, Stage, stage, point, IsPoint, AreMade}
-use Rattle.mc_lower_spec.specs.Lowering.{Loop, Around, in_block}
+use Rattle.mc_lower_spec.specs.Lowering.{Loop, Around}
 use Rattle.mc_lower_spec.proofs.Stepping.{Vars}
 use Rattle.mc_lower_spec.proofs.Holding.{Limit, limit, IsLate, AreLate, Frame, Held, AreUndone, both_undone, without_undone, in_left, in_right}
-use Rattle.mc_lower_spec.proofs.Growing.{variables_of, lowered}
+use Rattle.mc_lower_spec.proofs.Growing.{lowered}
 use Rattle.mc_lower_spec.proofs.Following.{IsLoop, Exits, IsWithin, frame_of, around_loop, outer_limits, loop_tasks, Follows, over, performs, skips, raises, ends_block, agains, ends_turn, ends_loop, ends_call, below, IsResult, Wants, weight, limited, no_late, held_raised}
 use Rattle.mc_lower_spec.proofs.Entering.{block_left}
 

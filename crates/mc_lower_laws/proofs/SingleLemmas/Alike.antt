@@ -5,17 +5,8 @@ use Rattle.std.specs.Prelude.{slice_get, option_map}
 use Rattle.mc_base.specs.declared.plain.Kind.{Kind}
 use Rattle.mc_base.specs.declared.text.place.Place.{Place}
 use Rattle.mc_flow.specs.declared.instr.Instr.{Instr}
-use Rattle.mc_lower_spec.specs.Graphs.{Graph, Owner, local, result, temporary, Role, Stage, stage, IsPoint}
-
--- ---- stages
-abbrev pub goal_of : Stage → ℕ
-goal_of (stage a n k) = a
-
-abbrev pub points_of : Stage → ℕ
-points_of (stage a n k) = n
-
-abbrev pub variables_of : Stage → ℕ
-variables_of (stage a n k) = k
+use Rattle.mc_lower_spec.proofs.Stages.{goal_of, points_of, variables_of}
+use Rattle.mc_lower_spec.specs.Graphs.{Graph, Owner, local, result, temporary, Role, Stage, IsPoint}
 
 -- ---- owners, seen from an occurrence
 pub data Seen : Type 0 where

@@ -4,8 +4,9 @@ use Rattle.std.proofs.lemmas.Bool.{cases_lt}
 use Rattle.std.proofs.lemmas.Option.{same_Some}
 use Rattle.std.specs.Prelude.{slice_get, option_map}
 use Rattle.mc_lower_spec.specs.Graphs.{Graph, Owner, local, result, temporary, Stage}
-use Rattle.mc_lower_laws.proofs.SingleLemmas.Alike.{variables_of, own_local, own_result, another, seen, temporary_from_seen, Alike, Goes}
-use Rattle.mc_lower_laws.proofs.SingleLemmas.Owning.{occurrence, IsOwned}
+use Rattle.mc_lower_spec.proofs.Stages.{variables_of}
+use Rattle.mc_lower_laws.proofs.SingleLemmas.Alike.{own_local, own_result, another, seen, temporary_from_seen, Alike, Goes}
+use Rattle.mc_lower_spec.proofs.Owning.{occurrence, IsOwned}
 
 -- ---- what is free
 -- no variable made before belongs to an occurrence whose `return` goes to a point between these, and what is made goes no further than the occurrence itself
@@ -16,7 +17,7 @@ pub record Inside (g : Graph) (out p v n : ℕ) : Type 0 where
 pub first_part : {g : Graph} {out p v m n : ℕ} → Inside g out p v n → m ≤ n → Inside g out p v m
 first_part f less = record { free = λ i o x is of within low high. f.free i o x is of within low (omega (arith, less, high)); bound = omega (arith, less, f.bound) }
 
-pub second_part : {g : Graph} {out p v n m j : ℕ} → Inside g out p v n → IsOwned g out p v m j → Inside g out m j n
+pub second_part : {g : Graph} {out p v n m j : ℕ} → Inside g out p v n → IsOwned occurrence g out p v m j → Inside g out m j n
 second_part {v = v} f before =
     record {
       free = λ i o x is of within low high. elim (cases_lt i v) [

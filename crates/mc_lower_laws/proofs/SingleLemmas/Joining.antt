@@ -7,7 +7,8 @@ use Rattle.mc_flow.specs.declared.instr.Instr.{Instr}
 use Rattle.mc_semantics.specs.Resolved.Programs.{Left, Right, expression, result_of, allocation}
 use Rattle.mc_lower_spec.specs.Graphs.{Graph, Role, Stage, stage, IsPoint}
 use Rattle.mc_lower_spec.specs.Lowering.{SetsTo, sets_operand, sets_computed, sets_allocated, Assigns, assigns_variable, assigns_field, assigns_allocated}
-use Rattle.mc_lower_laws.proofs.SingleLemmas.Alike.{goal_of, points_of, Meets, SamePoints, Goes, same_point}
+use Rattle.mc_lower_spec.proofs.Stages.{goal_of, points_of}
+use Rattle.mc_lower_laws.proofs.SingleLemmas.Alike.{Meets, SamePoints, Goes, same_point}
 use Rattle.mc_lower_laws.proofs.SingleLemmas.Values.{Tells}
 
 pub joined : {g h : Graph} {p m n : ℕ} → SamePoints g h p m → SamePoints g h m n → SamePoints g h p n

@@ -11,15 +11,16 @@ use Rattle.mc_lower_spec.specs.Graphs.{Graph, Stage, stage, AreMade, Leaves}
 use Rattle.mc_lower_spec.specs.Lowering.{Loop, Around, in_block, in_loop, in_body, Receives, Awaits, Calls, calls, Performs, performs_assign, performs_result, performs_add, performs_subtract, performs_call}
 use Rattle.mc_lower_spec.specs.Lowering.{Declares, declares_none, declares_undefined, declares_value, Starts, starts_nothing, starts_declaring, starts_performing, Finishes, finishes_none, finishes}
 use Rattle.mc_lower_spec.specs.Lowering.{Lowers, declarations, blocks, empties, simples, frees, asserts, assumes, shapes_assumed, shapes_asserted, emptiness_asserted, ifs, ifs_else, whiles, dos, fors, breaks, continues, returns_nothing, returns_value, returns_result, LowersAll, lowers_none, lowers_next}
-use Rattle.mc_lower_laws.proofs.SingleLemmas.Alike.{points_of, variables_of, local_seen, Setting, Alike, Meets, Goes, on, stays, through}
+use Rattle.mc_lower_spec.proofs.Stages.{points_of, variables_of}
+use Rattle.mc_lower_laws.proofs.SingleLemmas.Alike.{local_seen, Setting, Alike, Meets, Goes, on, stays, through}
 use Rattle.mc_lower_laws.proofs.SingleLemmas.Variables.{local_once, result_once, appended, undefined, created}
 use Rattle.mc_lower_laws.proofs.SingleLemmas.Values.{evaluated, all_evaluated, tested, tested_perhaps, put}
 use Rattle.mc_lower_laws.proofs.SingleLemmas.Actions.{Comes, set_to, assigned, changed, info_once, received, passed, awaited, argument_once, arguments_once}
 use Rattle.mc_lower_laws.proofs.SingleLemmas.Ascending.{made_same, left_alike}
 use Rattle.mc_lower_laws.proofs.SingleLemmas.Entering.{Inside, first_part, second_part, NoneOf, elsewhere, none_yet, viewed}
 use Rattle.mc_lower_laws.proofs.SingleLemmas.Joining.{jumps, test_jumps, told_then, leads_away, at_goal, sets_no_call, assigns_no_call}
-use Rattle.mc_lower_laws.proofs.SingleLemmas.Owning as owning
-use Rattle.mc_lower_laws.proofs.SingleLemmas.Owning.{occurrence, IsOwned, on as and_then, none}
+use Rattle.mc_lower_spec.proofs.Owning as owning
+use Rattle.mc_lower_spec.proofs.Owning.{occurrence, IsOwned, on as and_then}
 
 abbrev pub Within : Graph → ℕ → Stage → Stage → Type 0
 Within g out s u = Inside g out (points_of s) (variables_of s) (points_of u)
@@ -40,7 +41,7 @@ same_loop : {e f i j : ℕ} → e ≡ f → i ≡ j → looped e i ≡ looped f 
 same_loop {f = f} {i = i} exits turns = ap (λ z. looped z i) exits ∙ ap (λ z. looped f z) turns
 
 -- what is made by others
-none_of : {g : Graph} {out at p v n k : ℕ} → IsOwned g at p v n k → (at ≡ out → ⊥) → n ≤ out → NoneOf g out v k
+none_of : {g : Graph} {out at p v n k : ℕ} → IsOwned occurrence g at p v n k → (at ≡ out → ⊥) → n ≤ out → NoneOf g out v k
 none_of {out = out} made other bound = λ i x is of low high.
     elim (made.owned i out x is of low high) [
       | inl own ↦ other (sym own)

@@ -15,7 +15,8 @@ use Rattle.mc_semantics.specs.Resolved.Programs.{FieldAt, Left, Expr, number, in
 use Rattle.mc_lower_spec.specs.Graphs.{Graph, plain, Stage, stage, point, IsPoint}
 use Rattle.mc_lower_spec.specs.Values.{struct_at, Operation, a_field, a_sum, a_difference, a_product, sets, IsOfKind, decides, Takes, takes, Walks, walks_none, walks, Evaluates, of_number, of_variable, of_operation, Computes, of_input, of_field, of_minus, of_times, of_plus, of_difference}
 use Rattle.mc_lower_spec.specs.Values.{EvaluatesAll, evaluates_none, evaluates_next, Compares, compares, Tests, tests_plain, tests_compare, tests_negation, tests_both, tests_either, TestsPerhaps, tests_always, tests_once, Puts, puts_variable, puts_field}
-use Rattle.mc_lower_laws.proofs.SingleLemmas.Alike.{goal_of, points_of, Setting, Meets, SamePoints, Goes, on, stays, same_point}
+use Rattle.mc_lower_spec.proofs.Stages.{goal_of, points_of}
+use Rattle.mc_lower_laws.proofs.SingleLemmas.Alike.{Setting, Meets, SamePoints, Goes, on, stays, same_point}
 use Rattle.mc_lower_laws.proofs.SingleLemmas.Variables.{local_once, appended, undefined, used}
 
 -- the same comes of two steps, and the same temporaries are used

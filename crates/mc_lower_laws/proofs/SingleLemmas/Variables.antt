@@ -11,7 +11,8 @@ use Rattle.mc_base.specs.declared.text.place.Place.{Place}
 use Rattle.mc_flow.specs.declared.instr.Instr.{Instr}
 use Rattle.mc_flow.specs.declared.instr.Instr.TheVariants.{Undef}
 use Rattle.mc_lower_spec.specs.Graphs.{Graph, Owner, local, result, temporary, Role, Stage, stage, point, var, IsPoint, Appends, appends, Undefines, undefines_none, undefines, Creates, creates, IsMade, is_made, Uses, uses_first, uses_again}
-use Rattle.mc_lower_laws.proofs.SingleLemmas.Alike.{variables_of, seen, local_seen, result_seen, local_from_seen, result_from_seen, temporary_from_seen}
+use Rattle.mc_lower_spec.proofs.Stages.{variables_of}
+use Rattle.mc_lower_laws.proofs.SingleLemmas.Alike.{seen, local_seen, result_seen, local_from_seen, result_from_seen, temporary_from_seen}
 use Rattle.mc_lower_laws.proofs.SingleLemmas.Alike.{Setting, Alike, Meets, Goes, stays, same_point}
 
 -- ---- from the one to the other

@@ -16,14 +16,15 @@ use Rattle.mc_flow.specs.declared.instr.Instr.TheVariants.{Copy, End}
 use Rattle.mc_semantics.specs.Resolved.Programs.{Function, Program}
 use Rattle.mc_lower_spec.specs.Graphs.{Graph, Role, plain, Stage, stage, nowhere, IsPoint}
 use Rattle.mc_lower_spec.specs.Lowering.{in_body, Answers, answers_none, answers, Falls, falls_in_main, falls, Makes, makes, AreOfRole, operands, AreThresholds, IsLowering}
-use Rattle.mc_lower_laws.proofs.SingleLemmas.Alike.{points_of, result_seen, Setting, Meets, SamePoints, Goes, on, stays, same_point}
+use Rattle.mc_lower_spec.proofs.Stages.{points_of}
+use Rattle.mc_lower_laws.proofs.SingleLemmas.Alike.{result_seen, Setting, Meets, SamePoints, Goes, on, stays, same_point}
 use Rattle.mc_lower_laws.proofs.SingleLemmas.Variables.{result_once, appended, created}
 use Rattle.mc_lower_laws.proofs.SingleLemmas.Ascending.{ascending_same}
 use Rattle.mc_lower_laws.proofs.SingleLemmas.Entering.{Inside, second_part, none_yet}
 use Rattle.mc_lower_laws.proofs.SingleLemmas.Joining.{joined}
 use Rattle.mc_lower_laws.proofs.SingleLemmas.Statements.{IsSame, all_lowered}
-use Rattle.mc_lower_laws.proofs.SingleLemmas.Owning as owning
-use Rattle.mc_lower_laws.proofs.SingleLemmas.Owning.{IsOwned, Owns, on as and_then, same as no_more}
+use Rattle.mc_lower_spec.proofs.Owning as owning
+use Rattle.mc_lower_spec.proofs.Owning.{Owns, on as and_then, same as no_more}
 
 -- ---- the entry
 answered : {g h : Graph} {out left : ℕ} {Same : Type 0} {kind : Option Kind} {s u r w : Stage} → Meets g h out left s r → Answers g out kind s u → Answers h left kind r w → Goes g h out left Same s u r w

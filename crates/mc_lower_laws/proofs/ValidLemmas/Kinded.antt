@@ -19,16 +19,11 @@ use Rattle.mc_flow.specs.declared.instr.Operand.{Operand}
 use Rattle.mc_flow.specs.declared.instr.Operand.TheVariants.{Var, Const}
 use Rattle.mc_flow.specs.Valid.{IsVar, IsOperand, IsField, FitsKinds}
 use Rattle.mc_semantics.specs.Resolved.Programs.{FieldAt, Left, Expr, Cond, Right, Local, Function}
-use Rattle.mc_lower_spec.specs.Graphs.{Graph, Owner, local, result, temporary, Role, Stage, stage, point, var, IsPoint, Appends, appends, Undefines, undefines_none, undefines, Creates, creates, IsMade, is_made, Uses, uses_first, uses_again}
+use Rattle.mc_lower_spec.proofs.Stages.{points_of, variables_of}
+use Rattle.mc_lower_spec.specs.Graphs.{Graph, Owner, local, result, temporary, Role, Stage, point, var, IsPoint, Appends, appends, Undefines, undefines_none, undefines, Creates, creates, IsMade, is_made, Uses, uses_first, uses_again}
 use Rattle.mc_lower_spec.specs.Values.{struct_at, Operation, an_input, a_field, a_sum, a_difference, a_product, sets, decides, Takes, takes, Walks, walks_none, walks, Evaluates, of_number, of_variable, of_operation, Computes, of_input, of_field, of_minus, of_times, of_plus, of_difference, EvaluatesAll, evaluates_none, evaluates_next, Compares, compares, Tests, tests_plain, tests_compare, tests_negation, tests_both, tests_either, TestsPerhaps, tests_always, tests_once, Puts, puts_variable, puts_field}
 use Rattle.mc_lower_spec.specs.Lowering.{SetsTo, sets_operand, sets_computed, sets_allocated, Assigns, assigns_variable, assigns_field, assigns_allocated, Changes, changes_variable, changes_field}
 use Rattle.mc_lower_laws.specs.Valid.Kinds.{Here, IsVariable, LeadsTo, IsLeft, IsOf, AreCompared, IsCondition, IsConditionPerhaps, IsRight}
-
-abbrev pub points_of : Stage → ℕ
-points_of (stage a n k) = n
-
-abbrev pub variables_of : Stage → ℕ
-variables_of (stage a n k) = k
 
 abbrev pub here : Graph → Function → Here
 here g f = record { structs = g.flow.structs; program = g.program; function = f }

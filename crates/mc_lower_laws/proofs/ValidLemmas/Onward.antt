@@ -18,6 +18,7 @@ use Rattle.mc_flow.specs.declared.instr.Instr.TheVariants.{Skip, End}
 use Rattle.mc_flow.specs.declared.instr.Operand.{Operand}
 use Rattle.mc_flow.specs.Valid.{GoesOn, IsSkip, targets}
 use Rattle.mc_semantics.specs.Resolved.Programs.{FieldAt, Left, Expr, Cond, Call, Right, Action, Simple, Initial, Start, Stmt, Stmts, Function}
+use Rattle.mc_lower_spec.proofs.Stages.{goal_of, points_of}
 use Rattle.mc_lower_spec.specs.Graphs.{Graph, Owner, Role, plain, head, merge, stop, Stage, stage, point, IsPoint, Appends, appends, Undefines, undefines_none, undefines, Creates, creates, Uses, uses_first, uses_again, Leaves, leaves}
 use Rattle.mc_lower_spec.specs.Values.{Operation, an_input, a_field, a_sum, a_difference, a_product, sets, decides, Takes, takes, Walks, walks_none, walks, Evaluates, of_number, of_variable, of_operation, Computes, of_input, of_field, of_minus, of_times, of_plus, of_difference, EvaluatesAll, evaluates_none, evaluates_next, Compares, compares, Tests, tests_plain, tests_compare, tests_negation, tests_both, tests_either, TestsPerhaps, tests_always, tests_once, Puts, puts_variable, puts_field}
 use Rattle.mc_lower_spec.specs.Lowering.{Around, Loop, in_body, in_block, in_loop, SetsTo, sets_operand, sets_computed, sets_allocated, Assigns, assigns_variable, assigns_field, assigns_allocated, Changes, changes_variable, changes_field}
@@ -34,12 +35,6 @@ pub record GoesOnWell (flow : Flow) : Type 0 where
   pub follows : (p : ℕ) (point : Point) → slice_get flow.points p ≡ Some point → All (GoesOn flow p) (targets point.code)
   pub heads : All (IsSkip flow.points) flow.heads
   pub merges : All (IsSkip flow.points) flow.merges
-
-abbrev goal_of : Stage → ℕ
-goal_of (stage a n k) = a
-
-abbrev points_of : Stage → ℕ
-points_of (stage a n k) = n
 
 -- ---- points
 -- loop heads and the points where ways meet are Skips

@@ -24,7 +24,8 @@ use Rattle.mc_lower_spec.specs.Lowering.{Lowers, declarations, blocks, empties, 
 use Rattle.mc_lower_spec.specs.Lowering.{Answers, answers_none, answers, Falls, falls_in_main, falls, Makes, makes}
 use Rattle.mc_lower_spec.proofs.Growing as grown
 use Rattle.mc_lower_laws.specs.Valid.Kinds.{IsArgument, AreArguments, IsCall, IsAction, AreDeclared, IsStart, IsLast, IsOf, IsOfKinds, AreOfKinds}
-use Rattle.mc_lower_laws.proofs.ValidLemmas.Kinded.{points_of, variables_of, here, AllFit, both_fit, none_fit, one_fits, appended, AreInside, none_inside, one_inside, Functions, IsOfKind, Suits, Knows, IsValueOf, Stays, StaysTo, AreOperands}
+use Rattle.mc_lower_spec.proofs.Stages.{points_of, variables_of}
+use Rattle.mc_lower_laws.proofs.ValidLemmas.Kinded.{here, AllFit, both_fit, none_fit, one_fits, appended, AreInside, none_inside, one_inside, Functions, IsOfKind, Suits, Knows, IsValueOf, Stays, StaysTo, AreOperands}
 use Rattle.mc_lower_laws.proofs.ValidLemmas.Kinded.{created, local_kind, result_kind, of_var, of_constant, joined, point_stays, undefined_stays, appended_variables, evaluated, all_evaluated, tested, tested_perhaps, put, set, assigned, changed, zero_of}
 
 -- what the whole flow graph and program are

@@ -9,18 +9,13 @@ use Rattle.mc_base.specs.declared.ids.PointId.{PointId}
 use Rattle.mc_flow.specs.declared.instr.Instr.{Instr}
 use Rattle.mc_flow.specs.declared.instr.Operand.{Operand}
 use Rattle.mc_semantics.specs.Resolved.Programs.{FieldAt, Left, Expr, Cond, Right, Function}
-use Rattle.mc_lower_spec.specs.Graphs.{Graph, Owner, Role, Stage, stage, Appends, appends, Undefines, undefines_none, undefines, Creates, creates, Uses, uses_first, uses_again}
+use Rattle.mc_lower_spec.proofs.Stages.{points_of, variables_of}
+use Rattle.mc_lower_spec.specs.Graphs.{Graph, Owner, Role, Stage, Appends, appends, Undefines, undefines_none, undefines, Creates, creates, Uses, uses_first, uses_again}
 use Rattle.mc_lower_spec.specs.Values.{Operation, Takes, takes, Walks, walks_none, walks, Evaluates, of_number, of_variable, of_operation, Computes, of_input, of_field, of_minus, of_times, of_plus, of_difference, EvaluatesAll, evaluates_none, evaluates_next}
 use Rattle.mc_lower_spec.specs.Values.{Compares, compares, Tests, tests_plain, tests_compare, tests_negation, tests_both, tests_either, TestsPerhaps, tests_always, tests_once, Puts, puts_variable, puts_field}
 use Rattle.mc_lower_spec.specs.Lowering.{SetsTo, sets_operand, sets_computed, sets_allocated, Assigns, assigns_variable, assigns_field, assigns_allocated, Changes, changes_variable, changes_field}
 use Rattle.mc_lower_spec.specs.Lowering.{Receives, receives_none, receives, Passes, passes_none, passes, Awaits, awaits_none, awaits}
 use Rattle.mc_lower_spec.specs.Length.Lengths.{clearing, operations, all_operations, testing, testing_perhaps, loading, putting, setting, changing, assigning, awaiting}
-
-abbrev pub points_of : Stage → ℕ
-points_of (stage a n k) = n
-
-abbrev pub variables_of : Stage → ℕ
-variables_of (stage a n k) = k
 
 -- from p points and v variables, c points more, and no fewer variables
 pub record IsCounted (c p v n k : ℕ) : Type 0 where

@@ -14,7 +14,8 @@ use Rattle.mc_lower_spec.specs.Lowering.{Around, SetsTo, sets_operand, sets_comp
 use Rattle.mc_lower_spec.specs.Lowering.{Declares, declares_none, declares_undefined, declares_value, Starts, starts_nothing, starts_declaring, starts_performing, Finishes, finishes_none, finishes}
 use Rattle.mc_lower_spec.specs.Lowering.{Lowers, declarations, blocks, empties, simples, frees, asserts, assumes, shapes_assumed, shapes_asserted, emptiness_asserted, ifs, ifs_else, whiles, dos, fors, breaks, continues, returns_nothing, returns_value, returns_result, LowersAll, lowers_none, lowers_next}
 use Rattle.mc_lower_spec.specs.Length.Lengths.{clearing, leaving, operations, all_operations, calling, returning, acting, declaring, starting, finishing, items_declared, start_declared, declared, all_declared, stretch, stretch_all, below, IsTable}
-use Rattle.mc_lower_spec.proofs.LengthLemmas.Counting.{points_of, variables_of, IsCounted, received, appended, undefined, created, evaluated, all_evaluated, tested, tested_perhaps, put, set, assigned, changed, passed, awaited}
+use Rattle.mc_lower_spec.proofs.Stages.{points_of, variables_of}
+use Rattle.mc_lower_spec.proofs.LengthLemmas.Counting.{IsCounted, received, appended, undefined, created, evaluated, all_evaluated, tested, tested_perhaps, put, set, assigned, changed, passed, awaited}
 
 -- at least c points more
 pub record IsAtLeast (c p v n k : ℕ) : Type 0 where

@@ -7,17 +7,19 @@ use Rattle.std.proofs.lemmas.List.Folds.{list_any-from_Any}
 use Rattle.std.specs.List.{list_any}
 use Rattle.std.specs.Prelude.{All, Contains, slice_get}
 use Rattle.mc_base.specs.declared.ids.VarId.{VarId}
+use Rattle.mc_base.specs.declared.plain.Kind.{Kind}
 use Rattle.mc_base.specs.declared.plain.VarInfo.{VarInfo}
 use Rattle.mc_base.specs.declared.text.place.Place.{Place}
 use Rattle.mc_semantics.specs.Resolved.Programs.{Call, Right, Action, Simple, Initial, Start, Stmt, Stmts, Function}
 use Rattle.mc_lower_spec.specs.Graphs.{Graph, Owner, local, Stage, stage, Creates, creates, IsMade, is_made, Leaves, leaves}
-use Rattle.mc_lower_spec.specs.Lowering.{Around, SetsTo, sets_operand, sets_computed, sets_allocated, Receives, receives_none, receives, Calls, calls, Performs, performs_assign, performs_result, performs_add, performs_subtract, performs_call}
+use Rattle.mc_lower_spec.specs.Lowering.{Around, SetsTo, sets_operand, sets_computed, sets_allocated, Receives, receives_none, receives, Awaits, awaits_none, awaits, Calls, calls, Performs, performs_assign, performs_result, performs_add, performs_subtract, performs_call}
 use Rattle.mc_lower_spec.specs.Lowering.{Declares, declares_none, declares_undefined, declares_value, Starts, starts_nothing, starts_declaring, starts_performing, Finishes, finishes_none, finishes}
 use Rattle.mc_lower_spec.specs.Lowering.{Lowers, declarations, blocks, empties, simples, frees, asserts, assumes, shapes_assumed, shapes_asserted, emptiness_asserted, ifs, ifs_else, whiles, dos, fors, breaks, continues, returns_nothing, returns_value, returns_result, LowersAll, lowers_none, lowers_next}
 use Rattle.mc_lower_spec.specs.Length.Lengths.{clearing, leaving, operations, all_operations, calling, acting, declaring, starting, finishing, returning, items_declared, start_declared, declared, all_declared, stretch, stretch_all, below, IsTable}
-use Rattle.mc_lower_spec.proofs.LengthLemmas.Counting.{points_of, variables_of, IsCounted, received, appended, undefined, created, evaluated, all_evaluated, tested, tested_perhaps, put, set, assigned, changed, passed, awaited}
-use Rattle.mc_lower_spec.proofs.LengthLemmas.Owning as owning
-use Rattle.mc_lower_spec.proofs.LengthLemmas.Owning.{IsOwned, on, none}
+use Rattle.mc_lower_spec.proofs.Stages.{points_of, variables_of}
+use Rattle.mc_lower_spec.proofs.LengthLemmas.Counting.{IsCounted, received, appended, undefined, created, evaluated, all_evaluated, tested, tested_perhaps, put, set, assigned, changed, passed, awaited}
+use Rattle.mc_lower_spec.proofs.Owning as owning
+use Rattle.mc_lower_spec.proofs.Owning.{IsOwned, occurrence, of_local, locals, on, none}
 
 -- at most c points more, where c is at most 10,000
 abbrev pub IsAtMost : (c p n : ℕ) → Type 0
@@ -41,24 +43,24 @@ pub record IsFree (g : Graph) (low high k : ℕ) : Type 0 where
 pub narrow : {g : Graph} {p u v w : ℕ} → IsFree g p u v → w ≤ u → IsFree g p w v
 narrow f less = record { free = λ i o x is within low high. f.free i o x is within low (omega (arith, less, high)) }
 
-pub beyond : {g : Graph} {out p v m j u w : ℕ} → IsFree g p u v → IsOwned g out p v m j → u ≤ out → w ≤ u → IsFree g m w j
+pub beyond : {g : Graph} {out p v m j u w : ℕ} → IsFree g p u v → IsOwned occurrence g out p v m j → u ≤ out → w ≤ u → IsFree g m w j
 beyond {v = v} f before bound less =
     record {
       free = λ i o x is within low high. elim (cases_lt i v) [
         | inl old ↦ f.free i o x is old (omega (arith, low, before.points)) (omega (arith, less, high))
-        | inr new ↦ elim (before.owned i o x is new within) [
+        | inr new ↦ elim (before.owned i o (local o x) is refl new within) [
           | inl own ↦ omega (arith, own, bound, less, high)
           | inr inner ↦ omega (arith, inner.1, low)
         ]
       ];
     }
 
-pub kept : {g : Graph} {out p v n k : ℕ} {made : List ℕ} → OnlyMade g out made v → IsOwned g (suc out) p v n k → n ≤ out → OnlyMade g out made k
+pub kept : {g : Graph} {out p v n k : ℕ} {made : List ℕ} → OnlyMade g out made v → IsOwned occurrence g (suc out) p v n k → n ≤ out → OnlyMade g out made k
 kept {out = out} {v = v} o more bound =
     record {
       only = λ i x is within. elim (cases_lt i v) [
         | inl old ↦ o.only i x is old
-        | inr new ↦ elim (more.owned i out x is new within) [
+        | inr new ↦ elim (more.owned i out (local out x) is refl new within) [
           | inl own ↦ absurd (omega (arith, own))
           | inr inner ↦ absurd (omega (arith, inner.1, bound))
         ]
@@ -141,9 +143,14 @@ received_only {g = g} {out = out} {x = x} (receives is (creates {k = k} owned in
           omega (arith, same)
     ]
 
+-- where a result is awaited, no variable of a function is made
+waited : {g : Graph} {out at : ℕ} {place : Place} {kind : Option Kind} {s u : Stage} {v : Option VarId} → Awaits g at place kind s v u → IsOwned of_local g out (points_of s) (variables_of s) (points_of u) (variables_of u)
+waited {s = s} awaits_none = owning.same s
+waited (awaits makes is) = on (owning.made (λ o never. absurd (cc never)) makes) (locals (owning.appended is))
+
 -- where a body begins, only the parameters are made
 pub parameters_only : {g : Graph} {f : Function} {inner parameters n k high : ℕ} {s u : Stage} {vs : List VarId} → Receives g f inner 0 parameters s vs u → IsFree g (points_of s) high (variables_of s)
-    → inner < high → IsOwned g (suc inner) (points_of u) (variables_of u) n k → n ≤ inner → OnlyMade g inner (below parameters) k
+    → inner < high → IsOwned of_local g (suc inner) (points_of u) (variables_of u) n k → n ≤ inner → OnlyMade g inner (below parameters) k
 parameters_only {inner = inner} {parameters = parameters} {s = s} {u = u} them f within more bound =
     let a = received them in
     record {
@@ -152,7 +159,7 @@ parameters_only {inner = inner} {parameters = parameters} {s = s} {u = u} them f
           | inl old ↦ absurd (f.free i inner x is old (omega (arith, a.points, more.points, bound)) within)
           | inr new ↦ below_has parameters x (let low = received_only them i x is new early in omega (arith, low))
         ]
-        | inr late ↦ elim (more.owned i inner x is late less) [
+        | inr late ↦ elim (more.owned i inner (local inner x) is refl late less) [
           | inl own ↦ absurd (omega (arith, own))
           | inr there ↦ absurd (omega (arith, there.1, bound))
         ]
@@ -169,7 +176,7 @@ abbrev pub Leads : Graph → (out : ℕ) → List ℕ → ℕ → Stage → Stag
 Leads g out made c s u = Most g out made c (points_of s) (points_of u) (variables_of u)
 
 -- where nothing is declared
-plainly : {g : Graph} {out : ℕ} {made : List ℕ} {c p v n k : ℕ} → IsAtMost c p n → IsOwned g (suc out) p v n k → n ≤ out → OnlyMade g out made v → Most g out (made ++ []) c p n k
+plainly : {g : Graph} {out : ℕ} {made : List ℕ} {c p v n k : ℕ} → IsAtMost c p n → IsOwned occurrence g (suc out) p v n k → n ≤ out → OnlyMade g out made v → Most g out (made ++ []) c p n k
 plainly x more bound m = record { points = x; made = no_others (kept m more bound) }
 
 -- a value that is returned
@@ -191,7 +198,7 @@ mutual
       let w = awaited waiting in
       let end = owning.ended ends in
       let through = owning.all_lowered body in
-      let between = on (owning.all_evaluated {out = suc inner} values) (on (owning.passed copies) (on (owning.undefined undone) (owning.awaited waiting))) in
+      let between = on (locals (on (owning.all_evaluated {out = suc inner} values) (on (owning.passed copies) (owning.undefined undone)))) (waited waiting) in
       let own = parameters_only parameters free (omega (arith, end.0)) between through.points in
       let before = on (owning.received parameters) (on (owning.all_evaluated values) (on (owning.passed copies) (on (owning.undefined undone) (owning.awaited waiting)))) in
       let inside = beyond {u = inner} {w = inner} (narrow {w = inner} free (omega (arith, end.0))) before (omega arith) (omega arith) in

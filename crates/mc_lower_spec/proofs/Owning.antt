@@ -1,5 +1,5 @@
 -- Whose the variables are that are made.
-use Rattle.std.proofs.Common.{◌≡◌, ◌≤◌, ◌<◌, ◌⊎◌, ℕ, suc, List, Option, Some, refl, sym, ap, ◌∙◌, inl, inr, arith}
+use Rattle.std.proofs.Common.{◌≡◌, ◌≤◌, ◌<◌, ◌⊎◌, ℕ, suc, List, Option, Some, None, refl, sym, ap, ◌∙◌, inl, inr, arith}
 use Rattle.std.proofs.lemmas.Bool.{cases_lt}
 use Rattle.std.proofs.lemmas.Option.{same_Some}
 use Rattle.std.specs.Prelude.{slice_get}
@@ -12,67 +12,91 @@ use Rattle.mc_base.specs.declared.ids.PointId.{PointId}
 use Rattle.mc_flow.specs.declared.instr.Instr.{Instr}
 use Rattle.mc_flow.specs.declared.instr.Operand.{Operand}
 use Rattle.mc_semantics.specs.Resolved.Programs.{FieldAt, Left, Expr, Cond, Call, Right, Action, Simple, Initial, Start, Stmt, Stmts, Function}
-use Rattle.mc_lower_spec.specs.Graphs.{Graph, Owner, local, Role, Stage, Appends, appends, Undefines, undefines_none, undefines, Creates, creates, Uses, uses_first, uses_again, Leaves, leaves}
+use Rattle.mc_lower_spec.specs.Graphs.{Graph, Owner, local, result, temporary, Role, Stage, Appends, appends, Undefines, undefines_none, undefines, Creates, creates, Uses, uses_first, uses_again, Leaves, leaves}
 use Rattle.mc_lower_spec.specs.Values.{Operation, Takes, takes, Walks, walks_none, walks, Evaluates, of_number, of_variable, of_operation, Computes, of_input, of_field, of_minus, of_times, of_plus, of_difference, EvaluatesAll, evaluates_none, evaluates_next, Compares, compares, Tests, tests_plain, tests_compare, tests_negation, tests_both, tests_either, TestsPerhaps, tests_always, tests_once, Puts, puts_variable, puts_field}
 use Rattle.mc_lower_spec.specs.Lowering.{Around, SetsTo, sets_operand, sets_computed, sets_allocated, Assigns, assigns_variable, assigns_field, assigns_allocated, Changes, changes_variable, changes_field}
 use Rattle.mc_lower_spec.specs.Lowering.{Receives, receives_none, receives, Passes, passes_none, passes, Awaits, awaits_none, awaits, Calls, calls, Performs, performs_assign, performs_result, performs_add, performs_subtract, performs_call}
 use Rattle.mc_lower_spec.specs.Lowering.{Declares, declares_none, declares_undefined, declares_value, Starts, starts_nothing, starts_declaring, starts_performing, Finishes, finishes_none, finishes}
 use Rattle.mc_lower_spec.specs.Lowering.{Lowers, declarations, blocks, empties, simples, frees, asserts, assumes, shapes_assumed, shapes_asserted, emptiness_asserted, ifs, ifs_else, whiles, dos, fors, breaks, continues, returns_nothing, returns_value, returns_result, LowersAll, lowers_none, lowers_next}
-use Rattle.mc_lower_spec.proofs.LengthLemmas.Counting.{points_of, variables_of}
+use Rattle.mc_lower_spec.proofs.Stages.{points_of, variables_of}
 
--- from p points and v variables no fewer, and what is made for variables of functions belongs to this occurrence, or to one whose `return` goes to a point
+-- the occurrence that a variable is of
+abbrev pub occurrence : Owner → Option ℕ
+occurrence (local out x) = Some out
+occurrence (result out) = Some out
+occurrence (temporary j kind) = None
+
+-- and of a variable of the function alone
+abbrev pub of_local : Owner → Option ℕ
+of_local (local out x) = Some out
+of_local (result out) = None
+of_local (temporary j kind) = None
+
+-- from p points and v variables no fewer, and what is made for occurrences belongs to this occurrence, or to one whose `return` goes to a point
 -- made here
-pub record IsOwned (g : Graph) (out p v n k : ℕ) : Type 0 where
+pub record IsOwned (of : Owner → Option ℕ) (g : Graph) (out p v n k : ℕ) : Type 0 where
   pub points : p ≤ n
   pub variables : v ≤ k
-  pub owned : (i o x : ℕ) → slice_get g.owners i ≡ Some (local o x) → v ≤ i → i < k → (o ≡ out) ⊎ ((p ≤ o) × (o < n))
+  pub owned : (i o : ℕ) (x : Owner) → slice_get g.owners i ≡ Some x → of x ≡ Some o → v ≤ i → i < k → (o ≡ out) ⊎ ((p ≤ o) × (o < n))
 
 abbrev pub Owns : Graph → ℕ → Stage → Stage → Type 0
-Owns g out s u = IsOwned g out (points_of s) (variables_of s) (points_of u) (variables_of u)
+Owns g out s u = IsOwned occurrence g out (points_of s) (variables_of s) (points_of u) (variables_of u)
 
 abbrev pub OwnsTo : Graph → ℕ → Stage → (n k : ℕ) → Type 0
-OwnsTo g out s n k = IsOwned g out (points_of s) (variables_of s) n k
+OwnsTo g out s n k = IsOwned occurrence g out (points_of s) (variables_of s) n k
 
 -- no variable is made
-pub none : {g : Graph} {out p v n : ℕ} → p ≤ n → IsOwned g out p v n v
-none more = record { points = more; variables = omega arith; owned = λ i o x is low high. absurd (omega (arith, low, high)) }
+pub none : {of : Owner → Option ℕ} {g : Graph} {out p v n : ℕ} → p ≤ n → IsOwned of g out p v n v
+none more = record { points = more; variables = omega arith; owned = λ i o x is by low high. absurd (omega (arith, low, high)) }
 
-pub same : {g : Graph} {out : ℕ} (s : Stage) → Owns g out s s
+pub same : {of : Owner → Option ℕ} {g : Graph} {out : ℕ} (s : Stage) → IsOwned of g out (points_of s) (variables_of s) (points_of s) (variables_of s)
 same s = none (omega arith)
 
-pub on : {g : Graph} {out p v m l n k : ℕ} → IsOwned g out p v m l → IsOwned g out m l n k → IsOwned g out p v n k
+pub on : {of : Owner → Option ℕ} {g : Graph} {out p v m l n k : ℕ} → IsOwned of g out p v m l → IsOwned of g out m l n k → IsOwned of g out p v n k
 on {l = l} first second =
     record {
       points = omega (arith, first.points, second.points);
       variables = omega (arith, first.variables, second.variables);
-      owned = λ i o x is low high. elim (cases_lt i l) [
-        | inl early ↦ elim (first.owned i o x is low early) [
+      owned = λ i o x is by low high. elim (cases_lt i l) [
+        | inl early ↦ elim (first.owned i o x is by low early) [
           | inl own ↦ inl own
           | inr inner ↦ inr (inner.0, omega (arith, inner.1, second.points))
         ]
-        | inr late ↦ elim (second.owned i o x is (omega (arith, late)) high) [
+        | inr late ↦ elim (second.owned i o x is by (omega (arith, late)) high) [
           | inl own ↦ inl own
           | inr inner ↦ inr (omega (arith, inner.0, first.points), inner.1)
         ]
       ];
     }
 
-abbrev out_in : Owner → ℕ
-out_in (local out x) = out
-out_in (Owner.result out) = 0
-out_in (Owner.temporary j kind) = 0
+-- what holds of all that is made holds of the variables of functions
+locally : (x : Owner) (o : ℕ) → of_local x ≡ Some o → occurrence x ≡ Some o
+locally (local out x) o e = e
+locally (result out) o e = absurd (cc e)
+locally (temporary j kind) o e = absurd (cc e)
 
--- a variable of an occurrence is made, or another one
-pub made_local : {g : Graph} {out y : ℕ} {info : VarInfo} {s u : Stage} {v : VarId} → Creates g (local out y) info s v u → Owns g out s u
-made_local {g = g} {out = out} {y = y} (creates {k = k} owned info) =
+pub locals : {g : Graph} {out p v n k : ℕ} → IsOwned occurrence g out p v n k → IsOwned of_local g out p v n k
+locals all = record { points = all.points; variables = all.variables; owned = λ i o x is by low high. all.owned i o x is (locally x o by) low high }
+
+-- a variable of an occurrence is made, or a temporary
+pub made : {of : Owner → Option ℕ} {g : Graph} {out : ℕ} {owner : Owner} {info : VarInfo} {s u : Stage} {v : VarId} → ((o : ℕ) → of owner ≡ Some o → o ≡ out) → Creates g owner info s v u
+    → IsOwned of g out (points_of s) (variables_of s) (points_of u) (variables_of u)
+made {of = of} {g = g} {owner = owner} only (creates {k = k} owned info) =
     record {
       points = omega arith;
       variables = omega arith;
-      owned = λ i o x is low high.
+      owned = λ i o x is by low high.
           let here : i ≡ k = omega (arith, low, high) in
-          let there : slice_get g.owners i ≡ Some (local out y) = ap (λ z. slice_get g.owners z) here ∙ owned in
-          inl (ap out_in (same_Some (local o x) (local out y) (sym is ∙ there)));
+          let there : slice_get g.owners i ≡ Some owner = ap (λ z. slice_get g.owners z) here ∙ owned in
+          let same : x ≡ owner = same_Some x owner (sym is ∙ there) in
+          inl (only o (sym (ap of same) ∙ by));
     }
+
+pub made_local : {g : Graph} {out y : ℕ} {info : VarInfo} {s u : Stage} {v : VarId} → Creates g (local out y) info s v u → Owns g out s u
+made_local {out = out} makes = made (λ o e. same_Some o out (sym e)) makes
+
+pub made_result : {g : Graph} {out : ℕ} {info : VarInfo} {s u : Stage} {v : VarId} → Creates g (result out) info s v u → Owns g out s u
+made_result {out = out} makes = made (λ o e. same_Some o out (sym e)) makes
 
 pub appended : {g : Graph} {out : ℕ} {role : Role} {place : Place} {code : PointId → Instr} {s u : Stage} → Appends g role place code s u → Owns g out s u
 appended (appends is) = none (omega arith)
@@ -84,19 +108,8 @@ undefined (undefines is) = appended is
 pub left : {g : Graph} {out at : ℕ} {place : Place} {xs : List ℕ} {s u : Stage} → Leaves g at place xs s u → Owns g out s u
 left (leaves made undone) = undefined undone
 
-pub made_other : {g : Graph} {out : ℕ} {owner : Owner} {info : VarInfo} {s u : Stage} {v : VarId} → ((o x : ℕ) → owner ≡ local o x → ⊥) → Creates g owner info s v u → Owns g out s u
-made_other {g = g} {owner = owner} other (creates {k = k} owned info) =
-    record {
-      points = omega arith;
-      variables = omega arith;
-      owned = λ i o x is low high.
-          let here : i ≡ k = omega (arith, low, high) in
-          let there : slice_get g.owners i ≡ Some owner = ap (λ z. slice_get g.owners z) here ∙ owned in
-          absurd (other o x (same_Some owner (local o x) (sym there ∙ is)));
-    }
-
 pub used : {g : Graph} {out j : ℕ} {kind : Kind} {s u : Stage} {v : VarId} → Uses g j kind s v u → Owns g out s u
-used (uses_first is) = made_other (λ o x never. cc never) is
+used (uses_first is) = made (λ o never. absurd (cc never)) is
 used {s = s} (uses_again is) = same s
 
 taken : {g : Graph} {out : ℕ} {place : Place} {kind : Kind} {operation : Operation} {ts us : List VarId} {s u : Stage} {t : VarId} → Takes g place kind operation ts s t us u → Owns g out s u
@@ -166,17 +179,17 @@ pub passed : {g : Graph} {out : ℕ} {place : Place} {vs : List VarId} {os : Lis
 passed {s = s} passes_none = same s
 passed (passes is rest) = on (appended is) (passed rest)
 
-pub awaited : {g : Graph} {out at : ℕ} {place : Place} {kind : Option Kind} {s u : Stage} {v : Option VarId} → Awaits g at place kind s v u → Owns g out s u
+pub awaited : {g : Graph} {out : ℕ} {place : Place} {kind : Option Kind} {s u : Stage} {v : Option VarId} → Awaits g out place kind s v u → Owns g out s u
 awaited {s = s} awaits_none = same s
-awaited (awaits makes is) = on (made_other (λ o x never. cc never) makes) (appended is)
+awaited (awaits makes is) = on (made_result makes) (appended is)
 
 -- a call's body ends where its `return` goes
-inside : {g : Graph} {out inner p v k n j : ℕ} → IsOwned g inner p v inner k → (n ≡ suc inner) × (j ≡ k) → IsOwned g out p v n j
+inside : {g : Graph} {out inner p v k n j : ℕ} → IsOwned occurrence g inner p v inner k → (n ≡ suc inner) × (j ≡ k) → IsOwned occurrence g out p v n j
 inside {inner = inner} before end =
     record {
       points = omega (arith, before.points, end.0);
       variables = omega (arith, before.variables, end.1);
-      owned = λ i o x is low high. elim (before.owned i o x is low (omega (arith, high, end.1))) [
+      owned = λ i o x is of low high. elim (before.owned i o x is of low (omega (arith, high, end.1))) [
         | inl own ↦ inr (omega (arith, own, before.points), omega (arith, own, end.0))
         | inr within ↦ inr (within.0, omega (arith, within.1, end.0))
       ];
