@@ -41,27 +41,6 @@ around_of w c =
     }
 
 -- ---- kinds of statements and tasks
--- a statement with statements inside
-abbrev pub HasParts : Stmt → Type 0
-HasParts (declaration place items) = ⊥
-HasParts (block xs ss) = ⊤
-HasParts empty = ⊥
-HasParts (simple x) = ⊥
-HasParts (free place e) = ⊥
-HasParts (assert place d) = ⊥
-HasParts (assume place d) = ⊥
-HasParts (assume_shape place predicate x os) = ⊥
-HasParts (assert_shape place predicate a os) = ⊥
-HasParts (assert_empty place) = ⊥
-HasParts (if_only place d a) = ⊤
-HasParts (if_else place d a b) = ⊤
-HasParts (while_loop place d a) = ⊤
-HasParts (do_loop place a d) = ⊤
-HasParts (for_loop h a) = ⊤
-HasParts (break_loop place) = ⊥
-HasParts (continue_loop place) = ⊥
-HasParts (returns place right) = ⊥
-
 -- a statement that is lowered at once: it has no statements inside, and nothing of it may be a call
 abbrev pub IsCommand : Stmt → Type 0
 IsCommand (declaration place items) = ⊥

@@ -6,6 +6,7 @@
 mod assignments;
 mod builder;
 mod calls;
+mod commands;
 mod conditions;
 mod finishing;
 mod lines;

@@ -1,118 +1,25 @@
 // Statements are lowered, or what they are made of is next.
-ghost use Rattle.std.specs.Prelude.{Some, ◌≡◌, ◌<◌, [], ◌∷◌, IfOk, IsSome, OnOk, map, option_map};
+ghost use Rattle.std.specs.Prelude.{Some, ◌≡◌, ◌<◌, [], ◌∷◌, OnOk, map, option_map};
 ghost use Rattle.mc_lower_spec.specs.Length.Lengths.{all_declared, declared};
-ghost use Rattle.mc_flow.specs.declared.instr.Instr.TheVariants.{AssertEmpty as EmptinessAsserted};
-ghost use Rattle.mc_lower_spec.specs.Graphs.{Appends, Leaves, plain};
-ghost use Rattle.mc_lower_spec.specs.Lowering.{AreArguments, Lowers, LowersAll};
-ghost use Rattle.mc_semantics.specs.Resolved.Programs.{assert_shape, assume_shape, block, break_loop, continue_loop, do_loop, for_loop, if_else, if_only, returns, while_loop};
-ghost use Rattle.mc_semantics.specs.Resolved.Views.{argument_of, condition_of, function_of, head_of, right_of, statement_of, stmts_of};
-ghost use Rattle.mc_lower.specs.Left.{Begins, Checks, EndsDo, EndsFor, EntersFor, ExitsTo, HasParts, IsBehind, IsCommand, Merges, Met, Otherwise, TurnsFor, around_of};
-ghost use Rattle.mc_lower.specs.Knowns.{IsAnswered, IsOpen, IsThere, Keeps, Known, known, with_all, with_label};
-ghost use Rattle.mc_lower.specs.Ready.{AreArgumentsReady, FitsAll, FitsFor, FitsStatement, IsArgumentReady, IsLastReady, IsPlainReady, IsReturnReady, IsRightReady, IsTestReady, Later, Needs, Ready, makes, takes};
-ghost use Rattle.mc_lower.specs.Worlds.{Agrees, Leads, World, role_of, settled, stage_of};
+ghost use Rattle.mc_lower_spec.specs.Length.Waiting.{IsOuter};
+ghost use Rattle.mc_lower_spec.specs.Lowering.{Lowers, LowersAll};
+ghost use Rattle.mc_semantics.specs.Resolved.Programs.{block, do_loop, for_loop, if_else, if_only, returns, while_loop};
+ghost use Rattle.mc_semantics.specs.Resolved.Views.{condition_of, head_of, right_of, statement_of, stmts_of};
+ghost use Rattle.mc_lower.specs.Left.{Begins, EndsDo, EndsFor, EntersFor, ExitsTo, IsBehind, Merges, Met, Otherwise, TurnsFor, around_of};
+ghost use Rattle.mc_lower.specs.Knowns.{IsAnswered, Keeps, Known, known, with_all, with_label};
+ghost use Rattle.mc_lower.specs.Ready.{FitsAll, FitsFor, FitsStatement, IsLastReady, IsPlainReady, IsReturnReady, IsRightReady, IsTestReady, Later, Needs, Ready, makes, takes};
+ghost use Rattle.mc_lower.specs.Worlds.{Leads};
 
 use crate::builder::{BuildFault, Builder, Label, NOWHERE, Role};
 use crate::conditions::Ways;
 use crate::tasks::{Context, Task, Turns, push};
 use crate::values::Site;
-use mc_base::Items;
 use mc_base::stack::Stack;
 use mc_base::text::Place;
-use mc_flow::{Instr, Operand};
-use mc_semantics::resolved::{
-    Argument, AssertShape, AssumeShape, Condition, ForHead, ForStart, RightSide, Statement,
-};
+use mc_flow::Instr;
+use mc_semantics::resolved::{Condition, ForHead, ForStart, RightSide, Statement};
 
 impl<'a> Builder<'a> {
-    // ---- commands
-    // Where the condition is false, there is a Fail, or an End that is a stop.
-    fn check(
-        &mut self,
-        place: Place,
-        condition: &Condition,
-        role: Role,
-        otherwise: Instr,
-        occurrence: usize,
-    ) -> Result<(), BuildFault>
-        requires { IsTestReady (known self.old) occurrence (condition_of condition.now) }
-        ensures same { OnOk result (Keeps self.old self.new) }
-        ensures leads { OnOk result (Leads
-            (λ w s u. Checks w.graph (w.out occurrence) (role_of role) place (settled w.at otherwise)
-            (condition_of condition.now) s u) self.old self.new) }
-    {
-        let yes = self.label()?;
-        let no = self.label()?;
-        self.test(occurrence, condition, Ways { yes, no })?;
-        self.put_last(role, place, otherwise)?;
-        Ok(())
-    }
-
-    // The operands of a shape's arguments.
-    fn arguments(
-        &self,
-        occurrence: usize,
-        arguments: &[Argument],
-    ) -> Result<Items<Operand>, BuildFault>
-        requires { AreArgumentsReady (known self.now) occurrence (map argument_of arguments.now) }
-        ensures { IfOk result (λ os. (w : World) → Agrees w self.now
-            → AreArguments w.graph (w.out occurrence) (stage_of w self.now) (map argument_of arguments.now) os) }
-    {
-        let mut operands = Vec::new(self.alloc);
-        for at in 0..arguments.len() {
-            let operand = self.argument(occurrence, arguments[at]);
-            operands.push(operand)?;
-        }
-        Ok(Items::of(operands))
-    }
-
-    // `assume_shape`.
-    fn assume_shape(&mut self, shape: &AssumeShape, context: Context<'a>) -> Result<(), BuildFault>
-        requires there { IsThere (known self.old) context.occurrence shape.now.variable }
-        requires arguments { AreArgumentsReady (known self.old) context.occurrence (map argument_of shape.now.arguments.items) }
-        ensures same { OnOk result (Keeps self.old self.new) }
-        ensures leads { OnOk result (Leads
-            (λ w s u. Lowers w.graph (around_of w context.entry)
-            (assume_shape shape.now.place shape.now.predicate shape.now.variable
-            (map argument_of shape.now.arguments.items)) s u) self.old self.new) }
-    {
-        let occurrence = context.occurrence;
-        let variable = self.local(occurrence, shape.variable);
-        let operands = self.arguments(occurrence, shape.arguments.as_slice())?;
-        let next = self.next();
-        let code = Instr::AssumeShape(shape.predicate, variable, operands, next.target());
-        self.append(Role::Plain, shape.place, code)?;
-        Ok(())
-    }
-
-    // `assert_shape`.
-    fn assert_shape(&mut self, shape: &AssertShape, context: Context<'a>) -> Result<(), BuildFault>
-        requires start { IsArgumentReady (known self.old) context.occurrence (argument_of shape.now.start) }
-        requires arguments { AreArgumentsReady (known self.old) context.occurrence (map argument_of shape.now.arguments.items) }
-        ensures same { OnOk result (Keeps self.old self.new) }
-        ensures leads { OnOk result (Leads
-            (λ w s u. Lowers w.graph (around_of w context.entry)
-            (assert_shape shape.now.place shape.now.predicate (argument_of shape.now.start)
-            (map argument_of shape.now.arguments.items)) s u) self.old self.new) }
-    {
-        let occurrence = context.occurrence;
-        let start = self.argument(occurrence, shape.start);
-        let operands = self.arguments(occurrence, shape.arguments.as_slice())?;
-        let next = self.next();
-        let code = Instr::AssertShape(shape.predicate, start, operands, next.target());
-        self.append(Role::Plain, shape.place, code)?;
-        Ok(())
-    }
-
-    // `assert_empty`.
-    fn assert_empty(&mut self, place: Place) -> Result<(), BuildFault>
-        ensures same { OnOk result (Keeps self.old self.new) }
-        ensures leads { OnOk result (Leads (λ w s u. Appends w.graph plain place (λ q. EmptinessAsserted q) s u) self.old self.new) }
-    {
-        let next = self.next();
-        self.append(Role::Plain, place, Instr::AssertEmpty(next.target()))?;
-        Ok(())
-    }
-
     // ---- statements with statements inside
     // A block is entered.
     fn block(
@@ -432,37 +339,7 @@ impl<'a> Builder<'a> {
         Ok(())
     }
 
-    // ---- jumps
-    // `break` and `continue`: the variables of the blocks that are left become undefined.
-    fn break_loop(&mut self, place: Place, context: Context<'a>) -> Result<(), BuildFault>
-        requires turns { IsSome context.turns }
-        requires open { IsOpen (known self.old) context.block }
-        ensures same { OnOk result (Keeps self.old self.new) }
-        ensures leads { OnOk result (Leads (λ w s u. Lowers w.graph (around_of w context.entry) (break_loop place) s u) self.old self.new) }
-    {
-        let Some(turns) = context.turns else {
-            unreachable!();
-        };
-        self.leave_blocks(place, context.occurrence, context.block)?;
-        self.go(turns.exit)?;
-        Ok(())
-    }
-
-    fn continue_loop(&mut self, place: Place, context: Context<'a>) -> Result<(), BuildFault>
-        requires turns { IsSome context.turns }
-        requires open { IsOpen (known self.old) context.block }
-        ensures same { OnOk result (Keeps self.old self.new) }
-        ensures leads { OnOk result (Leads
-            (λ w s u. Lowers w.graph (around_of w context.entry) (continue_loop place) s u) self.old self.new) }
-    {
-        let Some(turns) = context.turns else {
-            unreachable!();
-        };
-        self.leave_blocks(place, context.occurrence, context.block)?;
-        self.go(turns.turn)?;
-        Ok(())
-    }
-
+    // ---- returns
     // `return` with a value that is no call's.
     fn return_value(
         &mut self,
@@ -550,58 +427,6 @@ impl<'a> Builder<'a> {
         }
     }
 
-    // A statement that needs nothing else is lowered.
-    fn command(&mut self, statement: &Statement, context: Context<'a>) -> Result<(), BuildFault>
-        requires is_command { IsCommand (statement_of statement.now) }
-        requires fits { FitsStatement (known self.old) context (statement_of statement.now) }
-        ensures none { OnOk result (declared (statement_of statement.now) ≡ []) }
-        ensures same { OnOk result (Keeps self.old self.new) }
-        ensures leads { OnOk result (Leads
-            (λ w s u. Lowers w.graph (around_of w context.entry)
-            (statement_of statement.now) s u) self.old self.new) }
-    {
-        let occurrence = context.occurrence;
-        match statement {
-            Statement::Free(place, pointer) => {
-                let site = Site {
-                    occurrence,
-                    place: *place,
-                };
-                self.free(site, pointer)?;
-                Ok(())
-            }
-            Statement::Assert(place, condition) => {
-                self.check(*place, condition, Role::Plain, Instr::Fail, occurrence)?;
-                Ok(())
-            }
-            Statement::Assume(place, condition) => {
-                self.check(*place, condition, Role::Stop, Instr::End, occurrence)?;
-                Ok(())
-            }
-            Statement::AssumeShape(shape) => {
-                self.assume_shape(shape, context)?;
-                Ok(())
-            }
-            Statement::AssertShape(shape) => {
-                self.assert_shape(shape, context)?;
-                Ok(())
-            }
-            Statement::AssertEmpty(place) => {
-                self.assert_empty(*place)?;
-                Ok(())
-            }
-            Statement::Break(place) => {
-                self.break_loop(*place, context)?;
-                Ok(())
-            }
-            Statement::Continue(place) => {
-                self.continue_loop(*place, context)?;
-                Ok(())
-            }
-            _ => unreachable!(),
-        }
-    }
-
     // A statement with statements inside: these are next.
     fn outer(
         &mut self,
@@ -609,7 +434,7 @@ impl<'a> Builder<'a> {
         statement: &'a Statement,
         context: Context<'a>,
     ) -> Result<(), BuildFault>
-        requires has_parts { HasParts (statement_of statement.now) }
+        requires outer { IsOuter (statement_of statement.now) }
         requires fits { FitsStatement (known self.old) context (statement_of statement.now) }
         ensures source { OnOk result ((known self.new).source ≡ (known self.old).source) }
         ensures ready { OnOk result (Later (known self.old) context.entry.occurrence
@@ -643,18 +468,7 @@ impl<'a> Builder<'a> {
                 self.for_loop(tasks, head, body, context)?;
                 Ok(())
             }
-            Statement::Declaration(_, _)
-            | Statement::Empty
-            | Statement::Simple(_)
-            | Statement::Free(_, _)
-            | Statement::Assert(_, _)
-            | Statement::Assume(_, _)
-            | Statement::AssumeShape(_)
-            | Statement::AssertShape(_)
-            | Statement::AssertEmpty(_)
-            | Statement::Break(_)
-            | Statement::Continue(_)
-            | Statement::Return(_, _) => unreachable!(),
+            _ => unreachable!(),
         }
     }
 
