@@ -64,7 +64,7 @@ pub record Given (start text definitions : List ℕ) (unit : UnitTree) (defs : L
   pub defined : AreDefinitions unit defs definitions
   pub fit : IsBound unit defs
 
-given : (holds : Holds) (s : Sources) (unit : UnitTree) (defs : List Def) (start p d text definitions : List ℕ) → s.program.now ≡ p → s.definitions.now ≡ d → s.start.now ≡ start
+pub given : (holds : Holds) (s : Sources) (unit : UnitTree) (defs : List Def) (start p d text definitions : List ℕ) → s.program.now ≡ p → s.definitions.now ≡ d → s.start.now ≡ start
     → holds p ≡ Some text → holds d ≡ Some definitions → AreInputs holds s unit defs → Given start text definitions unit defs
 given holds s unit defs start p d text definitions e f g h k inputs =
     record {
@@ -164,11 +164,11 @@ module _ (laws : Laws) (after : Holds) (more : List (List ℕ)) (c : Check) (ask
   judged d too TooLong why =
       let longer = subst (λ (s : List ℕ). AreLong s unit defs) (start_too d too) why flow graph in absurd (omega arith)
   judged d too (Judged v) why =
-      let graph_too = subst (λ (s : List ℕ). IsGraphOf s unit defs why.0) (start_too d too) why.1 in
-      let flow_is = one_flow laws c.start.now text definitions unit defs here flow why.0 graph graph_too in
+      let graph_too = subst (λ (s : List ℕ). IsGraphOf s unit defs why.flow) (start_too d too) why.graph in
+      let flow_is = one_flow laws c.start.now text definitions unit defs here flow why.flow graph graph_too in
       let document = found_document found good in
       let held : after d.document.now ≡ Some document.0 = ap after (document_too d too) ∙ left ∙ document.1 in
-      let tells = (why.3 document.0 held).0 in
+      let tells = (why.told document.0 held).0.0 in
       verdict_is flow defs found document.0 v is_found good (sym document.1) (subst (λ (f : Flow). Tells f defs document.0 v) flow_is tells)
 
   refused_never : (r : Request) (refusal : Refusal) → Asks more r → IsRefused after (sources_of r) refusal → ⊥
@@ -220,7 +220,7 @@ alike_found laws before after words more a c found other asks too names still wh
     let here = given before (sources_of (request.Analyse b)) unit defs c.start.now a.program.now a.definitions.now still.text still.definitions program_is definitions_are start_is
     still.program_before still.definitions_before why.2.2 in
     answers laws after more c too still.text still.definitions (ap after names.program ∙ still.program_after) (ap after names.definitions ∙ still.definitions_after) unit defs here what.0
-    (subst (λ (s : List ℕ). IsGraphOf s unit defs what.0) start_is what.1) what.2 found what.3 good left other then
+    (subst (λ (s : List ℕ). IsGraphOf s unit defs what.0) start_is what.1) what.2 found what.3.0 good left other then
 
 pub alike : Laws → AreJudgedAlike
 alike laws before after words more a c one other asks too names still why good left then =

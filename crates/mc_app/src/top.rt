@@ -6,9 +6,11 @@ ghost use Rattle.mc_app.specs.Printing.{text_of};
 ghost use Rattle.mc_app.specs.Answers.{AsksForSafety, EndsWith, HasTarget, IsSafeForWords, IsWhyWords, Keeps, OnlyTargetChanges, PrintsPart, TargetHoldsPart, document_of, sources_of, status_of, target_of};
 ghost use Rattle.mc_app.specs.Checks.{IsSafeWhereTold};
 ghost use Rattle.mc_app.specs.Faults.{fault_status};
+ghost use Rattle.mc_app.specs.Statuses.{AlarmsTell, IsComplete};
 
 use crate::analysing::answer_analysis;
 use crate::checking::answer_check;
+use crate::laws::answers_are_complete;
 use crate::running::answer_run;
 use crate::words::{Request, asked};
 use crate::{Answer, Status};
@@ -128,6 +130,10 @@ pub fn memcad<F: Files, K: Sink>(
 ) -> Status
     // Where a document is accepted or a certificate was found, no run of the program has a fault.
     ensures safe { result ≡ Status.Good → IsSafeForWords (F.holds files.old) (map string_bytes words.now) }
+    // Where there are alarms, every run of the program that has a fault comes by one of the branches that are reported.
+    ensures alarms { result ≡ Status.Alarm → AlarmsTell (F.holds files.old) (map string_bytes words.now) (K.written out.old) (K.written out.new) }
+    // A command whose program and definitions are read and fit ends by its document, its script or what is found.
+    ensures complete { IsComplete (F.holds files.old) (map string_bytes words.now) result }
     // Each answer has its cause, leaves its document and prints its text. A call without an answer ran out of memory, or the
     // device failed.
     ensures why { EndsWith (F.holds files.old) (F.holds files.new) (map string_bytes words.now) (K.written out.old)
@@ -141,6 +147,8 @@ pub fn memcad<F: Files, K: Sink>(
     ensures same { OnlyTargetChanges (map string_bytes words.now) (F.holds files.old) (F.holds files.new) }
     ensures leaves_part { TargetHoldsPart (map string_bytes words.now) (F.holds files.old) (F.holds files.new) }
 {
+    // For the proof alone: an answer that has its cause is that of the command.
+    answers_are_complete();
     match found(alloc, words, files) {
         Err(fault) => status_of(fault),
         Ok(reply) => match keep(files, &reply) {
