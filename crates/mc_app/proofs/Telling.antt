@@ -1,8 +1,9 @@
 -- What a call's status means, from the cause of its answer.
-use Rattle.std.proofs.Common.{◌≡◌, ◌∙◌, ◌<◌, ◌⊎◌, ℕ, List, Option, Some, inl, inr, refl, sym, ap, subst, length, arith}
+use Rattle.std.proofs.Common.{◌≡◌, ◌∙◌, ◌<◌, ◌⊎◌, ℕ, List, Option, Some, codes, inl, inr, refl, sym, ap, subst, length, arith}
 use Rattle.std.specs.Prelude.{Ok}
 use Rattle.mc_c_syntax.specs.Ast.Trees.{UnitTree}
 use Rattle.mc_document.specs.Judge.Verdicts.{IsChain}
+use Rattle.mc_document.specs.declared.judge.verdict.Refusal.TheVariants.{EndsEarly}
 use Rattle.mc_document.specs.declared.judge.verdict.Verdict.TheVariants.{Safe, Alarms, Refused as Mistaken}
 use Rattle.mc_find.specs.declared.analysis.analysis.Analysis.TheVariants as analysis
 use Rattle.mc_flow.specs.declared.defs.rules.Def.{Def}
@@ -16,6 +17,7 @@ use Rattle.mc_load.specs.declared.inputs.refusal.Refusal.TheVariants as refusals
 use Rattle.mc_outside.specs.Outside.{AddsIfTold}
 use Rattle.mc_outside.specs.declared.outside.FileFault.{FileFault}
 use Rattle.mc_outside.specs.declared.outside.FileFault.TheVariants.{Failed, NoMemory}
+use Rattle.mc_app.specs.Alike.{AreJudgedAlike, IsLikeAnalysis}
 use Rattle.mc_app.specs.Answers.{AsksForSafety, IsWhyWords, sources_of, status_of}
 use Rattle.mc_app.specs.Blocked.{FaultsComeBy}
 use Rattle.mc_app.specs.Faults.{fault_status}
@@ -193,3 +195,19 @@ module _ (laws : Laws) (holds : Holds) (words : List (List ℕ)) (r : Request) (
 
 pub answers_complete : Laws → (holds : Holds) (words : List (List ℕ)) (a : Answer) → IsWhyWords holds words a → IsComplete holds words (status_of a)
 answers_complete laws holds words a why r unit defs ready = inr (inr (ends_by laws holds words r unit defs ready a why))
+
+-- ---- a check of what an analysis left
+
+pub fault_is_like : (after : Holds) (more : List (List ℕ)) (old new : Option (List ℕ)) (fault : FileFault) (s : Status) → s ≡ fault_status fault → IsLikeAnalysis after more old new s
+fault_is_like after more old new Failed s e before words a c one asks too names still why left = inl e
+fault_is_like after more old new NoMemory s e before words a c one asks too names still why left = inr (inl e)
+
+-- the text of an answer was printed
+printed : (old new : Option (List ℕ)) (a : Answer) → a ≡ Checked (Judged (Mistaken EndsEarly)) → AddsIfTold old (text_of a) new (Ok tt) → AddsIfTold old (codes "refused: ends early\n") new (Ok tt)
+printed old new a e adds = subst (λ (x : Answer). AddsIfTold old (text_of x) new (Ok tt)) e adds
+
+pub answer_is_like : AreJudgedAlike → (after : Holds) (more : List (List ℕ)) (other : Answer) (old new : Option (List ℕ)) → IsWhyWords after more other → AddsIfTold old (text_of other) new (Ok tt)
+    → IsLikeAnalysis after more old new (status_of other)
+answer_is_like alike after more other old new then adds before words a c one asks too names still why left =
+    let ends = alike before after words more a c one other asks too names still why left then in
+    inr (inr (ends.same, λ limit. (ap (λ (x : Answer). status_of x) (ends.early limit), printed old new other (ends.early limit) adds)))

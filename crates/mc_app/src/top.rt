@@ -3,6 +3,7 @@ ghost use Rattle.std.specs.Prelude.{◌≡◌, ◌<◌, ◌⊎◌, ℕ, List, If
 ghost use Rattle.mc_app.specs.Words.Words.{Asks};
 ghost use Rattle.mc_outside.specs.Outside.{HasCause, Stays, Rose, AddsIfTold};
 ghost use Rattle.mc_app.specs.Printing.{text_of};
+ghost use Rattle.mc_app.specs.Alike.{IsLikeAnalysis};
 ghost use Rattle.mc_app.specs.Answers.{AsksForSafety, EndsWith, HasTarget, IsSafeForWords, IsWhyWords, Keeps, OnlyTargetChanges, PrintsPart, TargetHoldsPart, document_of, sources_of, status_of, target_of};
 ghost use Rattle.mc_app.specs.Checks.{IsSafeWhereTold};
 ghost use Rattle.mc_app.specs.Faults.{fault_status};
@@ -10,7 +11,7 @@ ghost use Rattle.mc_app.specs.Statuses.{AlarmsTell, IsComplete};
 
 use crate::analysing::answer_analysis;
 use crate::checking::answer_check;
-use crate::laws::answers_are_complete;
+use crate::laws::{answers_are_complete, documents_are_judged_alike};
 use crate::running::answer_run;
 use crate::words::{Request, asked};
 use crate::{Answer, Status};
@@ -134,6 +135,8 @@ pub fn memcad<F: Files, K: Sink>(
     ensures alarms { result ≡ Status.Alarm → AlarmsTell (F.holds files.old) (map string_bytes words.now) (K.written out.old) (K.written out.new) }
     // A command whose program and definitions are read and fit ends by its document, its script or what is found.
     ensures complete { IsComplete (F.holds files.old) (map string_bytes words.now) result }
+    // A check of the document that an analysis of the same program has left ends like it.
+    ensures alike { IsLikeAnalysis (F.holds files.old) (map string_bytes words.now) (K.written out.old) (K.written out.new) result }
     // Each answer has its cause, leaves its document and prints its text. A call without an answer ran out of memory, or the
     // device failed.
     ensures why { EndsWith (F.holds files.old) (F.holds files.new) (map string_bytes words.now) (K.written out.old)
@@ -147,8 +150,9 @@ pub fn memcad<F: Files, K: Sink>(
     ensures same { OnlyTargetChanges (map string_bytes words.now) (F.holds files.old) (F.holds files.new) }
     ensures leaves_part { TargetHoldsPart (map string_bytes words.now) (F.holds files.old) (F.holds files.new) }
 {
-    // For the proof alone: an answer that has its cause is that of the command.
+    // For the proof alone: an answer that has its cause is that of the command, and a document is judged as it was found.
     answers_are_complete();
+    documents_are_judged_alike();
     match found(alloc, words, files) {
         Err(fault) => status_of(fault),
         Ok(reply) => match keep(files, &reply) {

@@ -38,10 +38,10 @@ returns-in_ok-verdict-in-Ok-clause-why g c =
       valid = valid;
       short = short;
       told = λ text h. (
-            subst (λ (ds : List Def). IsVerdictOn flow ds text v) c.defs-defs.ensures.same (c.in_ok-verdict-in-Ok.ensures.verdict text h),
-            verdict_means c.args.names.start.now unit bound.defs flow (λ stuck only. comes stuck c.requires.well_formed graph only) text v safe
+        subst (λ (ds : List Def). IsVerdictOn flow ds text v) c.defs-defs.ensures.same (c.in_ok-verdict-in-Ok.ensures.verdict text h),
+        verdict_means c.args.names.start.now unit bound.defs flow (λ stuck only. comes stuck c.requires.well_formed graph only) text v safe
             (subst (λ (ds : List Def). AlarmsAreFound flow ds text v) c.defs-defs.ensures.same (c.in_ok-verdict-in-Ok.ensures.faults text h)),
-          );
+      );
     }
 
 pub returns-in_ok-verdict-in-Ok-clause-safe : goal.returns-in_ok-verdict-in-Ok-clause-safe
