@@ -14,13 +14,13 @@ use Rattle.mc_document.proofs.laws.open_documents_end_early.Goals as goal
 
 ends_early : Once → AreRead → ReadIsNotRefused → OpenDocumentsEndEarly
 ends_early once are_read apart k well flow defs [] v (inl (r, reading, ended, said)) goes = absurd reading.spelled
-ends_early once are_read apart k well flow defs (t ∷ texts) v (inl (r, reading, ended, said)) (open, begun, still) =
-    let same = same_document k well flow defs once (t ∷ texts) open r begun reading in
+ends_early once are_read apart k well flow defs (t ∷ texts) v (inl (r, reading, ended, said)) (last, begun, still) =
+    let same = same_document k well flow defs once (t ∷ texts) last r begun reading in
     absurd (still (ap (λ x. x.stage) same ∙ ended))
 ends_early once are_read apart k well flow defs texts v (inr (inl (goes, is))) too = is
 ends_early once are_read apart k well flow defs [] v (inr (inr (cause, bad, is))) goes = absurd (nothing_refused k well flow defs cause bad)
-ends_early once are_read apart k well flow defs (t ∷ texts) v (inr (inr (cause, bad, is))) (open, begun, still) =
-    absurd (not_refused k well flow defs once apart are_read (t ∷ texts) open cause begun bad)
+ends_early once are_read apart k well flow defs (t ∷ texts) v (inr (inr (cause, bad, is))) (last, begun, still) =
+    absurd (not_refused k well flow defs once apart are_read (t ∷ texts) last cause begun bad)
 
 pub returns : goal.returns
 returns c = ends_early c.line_is_spelled_once.ensures c.spelled_lines_are_read.ensures c.refusals_are_one.ensures.apart
