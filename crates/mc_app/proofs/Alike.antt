@@ -1,5 +1,5 @@
 -- The document that an analysis has left is judged as the analysis ended.
-use Rattle.std.proofs.Common.{◌≡◌, ◌∙◌, ◌≤◌, ◌<◌, ◌⊎◌, ℕ, List, Some, inl, inr, refl, sym, ap, subst, length, arith}
+use Rattle.std.proofs.Common.{◌≡◌, ◌∙◌, ◌≤◌, ◌<◌, ◌⊎◌, ℕ, Bool, List, [], ◌∷◌, Option, Some, inl, inr, refl, sym, ap, subst, length, arith}
 use Rattle.std.specs.Prelude.{None, Ok, Err}
 use Rattle.mc_find.specs.declared.analysis.analysis.Analysis.{Analysis}
 use Rattle.mc_find.specs.declared.analysis.analysis.Analysis.TheVariants as analysis
@@ -11,6 +11,15 @@ use Rattle.mc_flow.specs.declared.defs.rules.Def.{Def}
 use Rattle.mc_flow.specs.declared.defs.shapes.StructInfo.{StructInfo}
 use Rattle.mc_flow.specs.declared.defs.shapes.Structs.{Structs}
 use Rattle.mc_flow.specs.declared.graph.Flow.{Flow}
+use Rattle.mc_flow.specs.Valid.{IsValid}
+use Rattle.mc_follow.specs.Alarms.Outcomes.{IsFront}
+use Rattle.mc_kernel.specs.Judges.{Knowledge}
+use Rattle.mc_kernel.specs.Oracle.Judges.{JudgesAreThere}
+use Rattle.mc_kernel.specs.Reading.Documents.{IsJudge}
+use Rattle.mc_lines.specs.Cert.Lines.{lines_of}
+use Rattle.mc_lines.specs.declared.cert.line.Line.{Line}
+use Rattle.mc_state.specs.declared.line.Form.TheVariants.{Chain}
+use Rattle.mc_state.specs.declared.raw_state.RawState.{RawState}
 use Rattle.mc_load.specs.Inputs.Inputs.{AreInputs, Holds, IsRefused}
 use Rattle.mc_load.specs.Inputs.Texts.{AreDefinitions, HasMisfit, IsProgramHere}
 use Rattle.mc_load.specs.declared.inputs.reading.Sources.{Sources}
@@ -19,8 +28,10 @@ use Rattle.mc_load.specs.declared.inputs.refusal.NoProgram.TheVariants as no_pro
 use Rattle.mc_load.specs.declared.inputs.refusal.Refusal.{Refusal}
 use Rattle.mc_load.specs.declared.inputs.refusal.Refusal.TheVariants.{Program, Definitions, Misfit}
 use Rattle.mc_document.specs.declared.judge.verdict.Verdict.{Verdict}
-use Rattle.mc_document.specs.declared.judge.verdict.Verdict.TheVariants.{Safe, Alarms}
-use Rattle.mc_document.specs.Judge.Verdicts.{IsCertificate, IsChain, Tells}
+use Rattle.mc_document.specs.declared.judge.verdict.Refusal.TheVariants.{EndsEarly}
+use Rattle.mc_document.specs.declared.judge.verdict.Verdict.TheVariants.{Safe, Alarms, Refused as Mistaken}
+use Rattle.mc_document.specs.Judge.Laws.{OpenDocumentsEndEarly}
+use Rattle.mc_document.specs.Judge.Verdicts.{GoesOn, IsCertificate, IsChain, SpellAll}
 use Rattle.mc_lower_spec.specs.Graphs.{Graph}
 use Rattle.mc_lower_spec.specs.Lowering.{IsLowering}
 use Rattle.mc_load.specs.declared.read.cause.Refusal.{Refusal as ProgramFault}
@@ -36,10 +47,10 @@ use Rattle.mc_app.specs.declared.words.words.Check.{Check}
 use Rattle.mc_app.specs.declared.words.words.Request.{Request}
 use Rattle.mc_app.specs.declared.words.words.Request.TheVariants as request
 use Rattle.mc_app.specs.Words.Words.{Asks, AsksAnalyse, AsksCheck}
-use Rattle.mc_app.specs.Alike.{AreJudgedAlike, AreStill, IsFoundStatus, NamesSame}
-use Rattle.mc_app.specs.Answers.{IsWhyWords, analysed_document, analysed_status, checked_status, document_of, sources_of, status_of}
+use Rattle.mc_app.specs.Alike.{AreJudgedAlike, AreStill, EndAlike, IsFoundStatus, NamesSame}
+use Rattle.mc_app.specs.Answers.{IsWhyWords, analysed_document, checked_status, sources_of, status_of}
 use Rattle.mc_load.specs.Lowered.Graphs.{AreLong, IsGraphOf}
-use Rattle.mc_app.specs.Checks.{IsWhyChecked}
+use Rattle.mc_app.specs.Checks.{IsJudged, IsWhyChecked}
 use Rattle.mc_app.specs.Documents.{IsVerdictOn}
 use Rattle.mc_app.specs.declared.answer.Answer.{Answer}
 use Rattle.mc_app.specs.declared.answer.Answer.TheVariants.{Words, Refused, Checked, Ran, Analysed}
@@ -55,6 +66,8 @@ pub record Laws : Type 0 where
   pub read_once : (text : List ℕ) (one other : UnitTree) → IsReadAs text one → IsReadAs text other → one ≡ other
   pub not_refused : (text entry : List ℕ) (unit : UnitTree) (refusal : ProgramFault) → IsProgramOf text entry unit → IsProgramRefused text entry refusal → ⊥
   pub defined_once : (text : List ℕ) (structs : List StructInfo) (one other : JudgedText (List Def)) → ReadsAs text structs one → ReadsAs text structs other → one ≡ other
+  pub judged : JudgesAreThere
+  pub early : OpenDocumentsEndEarly
   pub one_graph : (g h : Graph) (entry start : Function) (out count left more : ℕ) → g.program ≡ h.program → g.flow.structs ≡ h.flow.structs
       → IsLowering g entry out count → IsLowering h start left more → (g.flow ≡ h.flow) × (g.stops ≡ h.stops)
 
@@ -64,7 +77,7 @@ pub record Given (start text definitions : List ℕ) (unit : UnitTree) (defs : L
   pub defined : AreDefinitions unit defs definitions
   pub fit : IsBound unit defs
 
-given : (holds : Holds) (s : Sources) (unit : UnitTree) (defs : List Def) (start p d text definitions : List ℕ) → s.program.now ≡ p → s.definitions.now ≡ d → s.start.now ≡ start
+pub given : (holds : Holds) (s : Sources) (unit : UnitTree) (defs : List Def) (start p d text definitions : List ℕ) → s.program.now ≡ p → s.definitions.now ≡ d → s.start.now ≡ start
     → holds p ≡ Some text → holds d ≡ Some definitions → AreInputs holds s unit defs → Given start text definitions unit defs
 given holds s unit defs start p d text definitions e f g h k inputs =
     record {
@@ -113,33 +126,72 @@ module _ (laws : Laws) (start text definitions : List ℕ) (unit : UnitTree) (de
 
 -- ---- verdicts
 
--- the verdict on the document of what was found is that
-verdict_is : (flow : Flow) (defs : List Def) (found : Analysis) (document : List ℕ) (v : Verdict) → IsAnalysis flow defs found → IsFoundStatus (analysed_status (results.Found found))
-    → Some document ≡ analysed_document (results.Found found) → Tells flow defs document v → checked_status (Judged v) ≡ analysed_status (results.Found found)
-verdict_is flow defs (analysis.Safe f) document v proved good is tells =
+-- what is found and what its document is judged as
+abbrev AlikeFound : Analysis → Found → Type 0
+AlikeFound (analysis.Safe f) ending = checked_status ending ≡ statuses.Good
+AlikeFound (analysis.Alarms f count) ending = checked_status ending ≡ statuses.Alarm
+AlikeFound (analysis.Paths document) ending = ending ≡ Judged (Mistaken EndsEarly)
+AlikeFound analysis.Unknown ending = Unit {0}
+
+-- a document that begins a chain goes on
+front_goes_on : (k : Knowledge) (well : RawState → Bool) (flow : Flow) (defs : List Def) (texts : List (List ℕ)) (lines : List Line) → IsJudge k well flow defs → SpellAll texts lines
+    → IsFront flow defs lines → GoesOn k well flow defs texts
+front_goes_on k well flow defs [] lines right spelled front = tt
+front_goes_on k well flow defs (t ∷ texts) lines right spelled front =
+    let open_is = front.reads k well right in (
+      open_is.last,
+      record { form = Chain; lines = front.behind; spelled = subst (λ (ls : List Line). SpellAll (t ∷ texts) ls) front.spelled spelled; read = open_is.read },
+      open_is.not_ended,
+    )
+
+-- the verdict on the document of what was found
+verdict_is : Laws → (flow : Flow) (defs : List Def) (found : Analysis) (document : List ℕ) (v : Verdict) → IsValid flow defs → IsAnalysis flow defs found
+    → analysed_document (results.Found found) ≡ Some document → IsVerdictOn flow defs document v → AlikeFound found (Judged v)
+verdict_is laws flow defs (analysis.Safe f) document v valid proved is said =
     let document_is : document ≡ f.document.items = cc in
     let certificate : IsCertificate flow defs f.document.items = record { lines = proved.lines; spelled = proved.spelled; valid = proved.valid } in
-    let safe = tells.safe.1 (subst (λ (t : List ℕ). IsCertificate flow defs t) (sym document_is) certificate) in
+    let safe = said.0.safe.1 (subst (λ (t : List ℕ). IsCertificate flow defs t) (sym document_is) certificate) in
     ap (λ (x : Verdict). checked_status (Judged x)) safe
-verdict_is flow defs (analysis.Alarms f count) document v found good is tells =
+verdict_is laws flow defs (analysis.Alarms f count) document v valid found is said =
     let document_is : document ≡ f.document.items = cc in
     let chain : IsChain flow defs f.document.items found.stuck = record { lines = found.lines; spelled = found.spelled; short = found.chain } in
-    let alarms = (tells.alarms count).1 (found.stuck, subst (λ (t : List ℕ). IsChain flow defs t found.stuck) (sym document_is) chain, found.counted, found.some) in
+    let alarms = (said.0.alarms count).1 (found.stuck, subst (λ (t : List ℕ). IsChain flow defs t found.stuck) (sym document_is) chain, found.counted, found.some) in
     ap (λ (x : Verdict). checked_status (Judged x)) alarms
-verdict_is flow defs (analysis.Paths text) document v found (inl e) is tells = cc
-verdict_is flow defs (analysis.Paths text) document v found (inr e) is tells = cc
-verdict_is flow defs analysis.Unknown document v found (inl e) is tells = cc
-verdict_is flow defs analysis.Unknown document v found (inr e) is tells = cc
+verdict_is laws flow defs (analysis.Paths text) document v valid crowded is said =
+    let document_is : document ≡ text.items = cc in
+    let known = laws.judged flow defs valid in
+    let spelled = subst (λ (t : List ℕ). SpellAll (lines_of t) crowded.lines) (sym document_is) crowded.spelled in
+    let goes = front_goes_on known.0 known.1 flow defs (lines_of document) crowded.lines known.2 spelled crowded.front in
+    let early = laws.early known.0 known.1 flow defs (lines_of document) v (said.1 known.0 known.1 known.2) goes in
+    ap (λ (x : Verdict). Judged x) early
+verdict_is laws flow defs analysis.Unknown document v valid found is said = tt
 
--- what was found has left a document
-found_document : (found : Analysis) → IsFoundStatus (analysed_status (results.Found found)) → (document : List ℕ) × (analysed_document (results.Found found) ≡ Some document)
-found_document (analysis.Safe f) good = (f.document.items, refl)
-found_document (analysis.Alarms f count) good = (f.document.items, refl)
-found_document (analysis.Paths text) good = (text.items, refl)
-found_document analysis.Unknown (inl e) = cc
-found_document analysis.Unknown (inr e) = cc
+not_program : IsFoundStatus statuses.Program → ⊥
+not_program (inl e) = cc
+not_program (inr e) = cc
 
-module _ (laws : Laws) (after : Holds) (more : List (List ℕ)) (c : Check) (asks : AsksCheck more c) (text definitions : List ℕ) (told : after c.program.now ≡ Some text) (defined : after c.definitions.now ≡ Some definitions) (unit : UnitTree) (defs : List Def) (here : Given c.start.now text definitions unit defs) (flow : Flow) (graph : IsGraphOf c.start.now unit defs flow) (short : length flow.points ≤ 10000) (found : Analysis) (is_found : IsAnalysis flow defs found) (good : IsFoundStatus (analysed_status (results.Found found))) (left : after c.document.now ≡ analysed_document (results.Found found)) where
+not_definitions : IsFoundStatus statuses.Definitions → ⊥
+not_definitions (inl e) = cc
+not_definitions (inr e) = cc
+
+not_limit : IsFoundStatus statuses.Limit → ⊥
+not_limit (inl e) = cc
+not_limit (inr e) = cc
+
+-- what left no document was not found
+nothing_alike : (found : Analysis) (v : Verdict) → analysed_document (results.Found found) ≡ None → AlikeFound found (Judged v)
+nothing_alike (analysis.Safe f) v e = absurd cc
+nothing_alike (analysis.Alarms f count) v e = absurd cc
+nothing_alike (analysis.Paths text) v e = absurd cc
+nothing_alike analysis.Unknown v e = tt
+
+end_alike : (found : Analysis) (ending : Found) → AlikeFound found ending → EndAlike (Analysed (results.Found found)) (Checked ending)
+end_alike (analysis.Safe f) ending is = record { same = λ good. is; early = λ e. absurd cc }
+end_alike (analysis.Alarms f count) ending is = record { same = λ good. is; early = λ e. absurd cc }
+end_alike (analysis.Paths text) ending is = record { same = λ good. absurd (not_limit good); early = λ e. ap (λ (x : Found). Checked x) is }
+end_alike analysis.Unknown ending is = record { same = λ good. absurd (not_program good); early = λ e. absurd cc }
+
+module _ (laws : Laws) (after : Holds) (more : List (List ℕ)) (c : Check) (asks : AsksCheck more c) (text definitions : List ℕ) (told : after c.program.now ≡ Some text) (defined : after c.definitions.now ≡ Some definitions) (unit : UnitTree) (defs : List Def) (here : Given c.start.now text definitions unit defs) (flow : Flow) (graph : IsGraphOf c.start.now unit defs flow) (short : length flow.points ≤ 10000) (found : Analysis) (is_found : IsAnalysis flow defs found) (left : after c.document.now ≡ analysed_document (results.Found found)) where
   -- whatever reads these words names the same
   program_too : (d : Check) → AsksCheck more d → d.program.now ≡ c.program.now
   program_too d too = one_word check_app more _ d.program.now c.program.now too.program asks.program
@@ -160,16 +212,20 @@ module _ (laws : Laws) (after : Holds) (more : List (List ℕ)) (c : Check) (ask
       let unit_is = one_unit laws c.start.now text definitions unit defs here u there.program in
       (unit_is, one_defs laws c.start.now text definitions unit defs here ds (subst (λ (x : UnitTree). AreDefinitions x ds definitions) unit_is there.defined))
 
-  judged : (d : Check) → AsksCheck more d → (ending : Found) → IsWhyChecked after d unit defs ending → checked_status ending ≡ analysed_status (results.Found found)
+  -- the verdict on the document, if there is one
+  verdict_on : (d : Check) → AsksCheck more d → (v : Verdict) → IsJudged after d unit defs v → (o : Option (List ℕ)) → analysed_document (results.Found found) ≡ o → AlikeFound found (Judged v)
+  verdict_on d too v why None none = nothing_alike found v none
+  verdict_on d too v why (Some document) some =
+      let graph_too = subst (λ (s : List ℕ). IsGraphOf s unit defs why.flow) (start_too d too) why.graph in
+      let flow_is = one_flow laws c.start.now text definitions unit defs here flow why.flow graph graph_too in
+      let held : after d.document.now ≡ Some document = ap after (document_too d too) ∙ left ∙ some in
+      let said = (why.told document held).0 in
+      verdict_is laws flow defs found document v (subst (λ (f : Flow). IsValid f defs) flow_is why.valid) is_found some (subst (λ (f : Flow). IsVerdictOn f defs document v) flow_is said)
+
+  judged : (d : Check) → AsksCheck more d → (ending : Found) → IsWhyChecked after d unit defs ending → AlikeFound found ending
   judged d too TooLong why =
       let longer = subst (λ (s : List ℕ). AreLong s unit defs) (start_too d too) why flow graph in absurd (omega arith)
-  judged d too (Judged v) why =
-      let graph_too = subst (λ (s : List ℕ). IsGraphOf s unit defs why.0) (start_too d too) why.1 in
-      let flow_is = one_flow laws c.start.now text definitions unit defs here flow why.0 graph graph_too in
-      let document = found_document found good in
-      let held : after d.document.now ≡ Some document.0 = ap after (document_too d too) ∙ left ∙ document.1 in
-      let tells = (why.3 document.0 held).0 in
-      verdict_is flow defs found document.0 v is_found good (sym document.1) (subst (λ (f : Flow). Tells f defs document.0 v) flow_is tells)
+  judged d too (Judged v) why = verdict_on d too v why (analysed_document (results.Found found)) refl
 
   refused_never : (r : Request) (refusal : Refusal) → Asks more r → IsRefused after (sources_of r) refusal → ⊥
   refused_never (request.Check d) refusal too refused =
@@ -178,38 +234,27 @@ module _ (laws : Laws) (after : Holds) (more : List (List ℕ)) (c : Check) (ask
   refused_never (request.Run r) refusal too refused = no_run more c r asks too
   refused_never (request.Analyse a) refusal too refused = no_analysis more c a asks too
 
-  pub answers : (other : Answer) → IsWhyWords after more other → status_of other ≡ analysed_status (results.Found found)
+  pub answers : (other : Answer) → IsWhyWords after more other → EndAlike (Analysed (results.Found found)) other
   answers Words why = absurd (why (request.Check c) asks)
   answers (Refused refusal) why = absurd (refused_never why.0 refusal why.1 why.2)
   answers (Checked ending) why =
       let same = same_unit why.0 why.1 why.2.0 why.2.1 why.2.2 in
-      judged why.0 why.1 ending
-      (subst (λ (ds : List Def). IsWhyChecked after why.0 unit ds ending) same.1 (subst (λ (u : UnitTree). IsWhyChecked after why.0 u why.2.1 ending) same.0 why.2.3))
+      end_alike found ending
+      (judged why.0 why.1 ending
+      (subst (λ (ds : List Def). IsWhyChecked after why.0 unit ds ending) same.1 (subst (λ (u : UnitTree). IsWhyChecked after why.0 u why.2.1 ending) same.0 why.2.3)))
   answers (Ran ending) why = absurd (no_run more c why.0 asks why.1)
   answers (Analysed ending) why = absurd (no_analysis more c why.0 asks why.1)
 
 -- ---- both calls
 
--- only an analysis that found something ends so
-found_by : (before : Holds) (words : List (List ℕ)) (a : Analyse) (one : Answer) → AsksAnalyse words a → IsWhyWords before words one → IsFoundStatus (status_of one)
-    → (found : Analysis) × (one ≡ Analysed (results.Found found))
-found_by before words a Words asks why good = absurd (why (request.Analyse a) asks)
-found_by before words a (Refused (Program cause)) asks why (inl e) = cc
-found_by before words a (Refused (Program cause)) asks why (inr e) = cc
-found_by before words a (Refused (Definitions cause)) asks why (inl e) = cc
-found_by before words a (Refused (Definitions cause)) asks why (inr e) = cc
-found_by before words a (Refused (Misfit fault)) asks why (inl e) = cc
-found_by before words a (Refused (Misfit fault)) asks why (inr e) = cc
-found_by before words a (Checked ending) asks why good = absurd (no_analysis words why.0 a why.1 asks)
-found_by before words a (Ran ending) asks why good = absurd (no_other words why.0 a why.1 asks)
-found_by before words a (Analysed results.TooLong) asks why (inl e) = cc
-found_by before words a (Analysed results.TooLong) asks why (inr e) = cc
-found_by before words a (Analysed (results.Found found)) asks why good = (found, refl)
+-- what else an analysis may answer is neither a status of what was found nor of a limit
+nothing_found : (one other : Answer) → (IsFoundStatus (status_of one) → ⊥) → (status_of one ≡ statuses.Limit → ⊥) → EndAlike one other
+nothing_found one other good limit = record { same = λ e. absurd (good e); early = λ e. absurd (limit e) }
 
 alike_found : Laws → (before after : Holds) (words more : List (List ℕ)) (a : Analyse) (c : Check) (found : Analysis) (other : Answer) → AsksAnalyse words a → AsksCheck more c
-    → NamesSame a c → AreStill before after a → IsWhyWords before words (Analysed (results.Found found)) → IsFoundStatus (analysed_status (results.Found found))
-    → after c.document.now ≡ analysed_document (results.Found found) → IsWhyWords after more other → status_of other ≡ analysed_status (results.Found found)
-alike_found laws before after words more a c found other asks too names still why good left then =
+    → NamesSame a c → AreStill before after a → IsWhyWords before words (Analysed (results.Found found))
+    → after c.document.now ≡ analysed_document (results.Found found) → IsWhyWords after more other → EndAlike (Analysed (results.Found found)) other
+alike_found laws before after words more a c found other asks too names still why left then =
     let b = why.0 in
     let unit = why.2.0 in
     let defs = why.2.1 in
@@ -220,13 +265,14 @@ alike_found laws before after words more a c found other asks too names still wh
     let here = given before (sources_of (request.Analyse b)) unit defs c.start.now a.program.now a.definitions.now still.text still.definitions program_is definitions_are start_is
     still.program_before still.definitions_before why.2.2 in
     answers laws after more c too still.text still.definitions (ap after names.program ∙ still.program_after) (ap after names.definitions ∙ still.definitions_after) unit defs here what.0
-    (subst (λ (s : List ℕ). IsGraphOf s unit defs what.0) start_is what.1) what.2 found what.3 good left other then
+    (subst (λ (s : List ℕ). IsGraphOf s unit defs what.0) start_is what.1) what.2 found what.3.0 left other then
 
 pub alike : Laws → AreJudgedAlike
-alike laws before after words more a c one other asks too names still why good left then =
-    let by = found_by before words a one asks why good in
-    let is = by.1 in
-    let why_found = subst (λ (x : Answer). IsWhyWords before words x) is why in
-    let good_found = subst (λ (x : Answer). IsFoundStatus (status_of x)) is good in
-    let left_found = subst (λ (x : Answer). after c.document.now ≡ document_of x) is left in
-    alike_found laws before after words more a c by.0 other asks too names still why_found good_found left_found then ∙ sym (ap (λ (x : Answer). status_of x) is)
+alike laws before after words more a c Words other asks too names still why left then = absurd (why (request.Analyse a) asks)
+alike laws before after words more a c (Refused (Program cause)) other asks too names still why left then = nothing_found (Refused (Program cause)) other not_program (λ e. cc)
+alike laws before after words more a c (Refused (Definitions cause)) other asks too names still why left then = nothing_found (Refused (Definitions cause)) other not_definitions (λ e. cc)
+alike laws before after words more a c (Refused (Misfit fault)) other asks too names still why left then = nothing_found (Refused (Misfit fault)) other not_program (λ e. cc)
+alike laws before after words more a c (Checked ending) other asks too names still why left then = absurd (no_analysis words why.0 a why.1 asks)
+alike laws before after words more a c (Ran ending) other asks too names still why left then = absurd (no_other words why.0 a why.1 asks)
+alike laws before after words more a c (Analysed results.TooLong) other asks too names still why left then = nothing_found (Analysed results.TooLong) other not_program (λ e. cc)
+alike laws before after words more a c (Analysed (results.Found found)) other asks too names still why left then = alike_found laws before after words more a c found other asks too names still why left then

@@ -7,14 +7,13 @@ use Rattle.mc_flow.specs.declared.graph.Flow.{Flow}
 use Rattle.mc_document.specs.declared.judge.judge.Judge.{Judge}
 use Rattle.mc_flow.specs.Valid.{IsValid}
 use Rattle.mc_document.specs.declared.judge.verdict.Verdict.{Verdict}
-use Rattle.mc_document.specs.declared.judge.verdict.Verdict.TheVariants.{Safe, Alarms, Refused}
 use Rattle.mc_document.specs.Judge.Stages.{HasHeard, Hears, StaysFor}
 use Rattle.mc_document.specs.Judge.Verdicts.{IsVerdict, Tells}
-use Rattle.mc_kernel.specs.Certificates.{CertificateIsSafe, LastPassFindsFaults}
+use Rattle.mc_kernel.specs.Certificates.{LastPassFindsFaults}
 use Rattle.mc_kernel.specs.Judges.{Knowledge}
 use Rattle.mc_kernel.specs.Reading.Documents.{IsJudge}
 use Rattle.mc_state.specs.declared.raw_state.RawState.{RawState}
-use Rattle.mc_app.specs.Documents.{IsHeard, IsRightVerdict, MeansForRuns}
+use Rattle.mc_app.specs.Documents.{AlarmsAreFound, IsHeard, IsRightVerdict}
 
 -- who judges rightly for one judge does so for another of the same flow graph and definitions
 judges_too : (k : Knowledge) (well : RawState → Bool) (f g : Flow) (ds es : List Def) → f ≡ g → ds ≡ es → IsJudge k well f ds → IsJudge k well g es
@@ -68,14 +67,10 @@ front_length zero xs ys h = refl
 front_length (suc n) [] ys h = absurd (omega arith)
 front_length (suc n) (x ∷ xs) ys h = ap suc (front_length n xs ys (omega arith))
 
--- ---- what verdicts mean
+-- ---- alarms
 
-pub means : CertificateIsSafe → LastPassFindsFaults → (flow : Flow) (defs : List Def) → IsValid flow defs → (text : List ℕ) (v : Verdict) → Tells flow defs text v → MeansForRuns flow defs v
-means safe faults flow defs valid text Safe told =
-    let certificate = told.safe.0 refl in
-    safe flow defs certificate.lines valid certificate.valid
-means safe faults flow defs valid text (Alarms count) told =
-    let chain = (told.alarms count).0 refl in
+pub alarms_found : LastPassFindsFaults → (flow : Flow) (defs : List Def) → IsValid flow defs → (text : List ℕ) (v : Verdict) → Tells flow defs text v → AlarmsAreFound flow defs text v
+alarms_found faults flow defs valid text v told count e =
+    let chain = (told.alarms count).0 e in
     let short = chain.1.short in
-    (chain.0, chain.2, faults flow defs short.cuts [] short.rules chain.0 valid short.pass)
-means safe faults flow defs valid text (Refused cause) told = tt
+    (chain.0, chain.1, chain.2, faults flow defs short.cuts [] short.rules chain.0 valid short.pass)

@@ -6,4 +6,6 @@ pub mod Printing
 pub mod Safe
 pub mod Whys
 pub mod Alike
+pub mod Meaning
+pub mod Telling
 pub mod WordsLemmas

@@ -17,7 +17,13 @@ use Rattle.mc_app.specs.Runs.{IsWhyRan}
 -- what files hold has stayed
 pub stay_checked : (old new : Holds) (c : Check) (unit : UnitTree) (defs : List Def) (found : Checked) → Stays old new → IsWhyChecked new c unit defs found → IsWhyChecked old c unit defs found
 stay_checked old new c unit defs TooLong stays why = why
-stay_checked old new c unit defs (Judged v) stays why = (why.0, why.1, why.2, λ document k. why.3 document (stays c.document.now ∙ k))
+stay_checked old new c unit defs (Judged v) stays why = record {
+  flow = why.flow;
+  graph = why.graph;
+  valid = why.valid;
+  short = why.short;
+  told = λ document k. why.told document (stays c.document.now ∙ k);
+}
 
 pub stay_ran : (old new : Holds) (r : Run) (unit : UnitTree) (defs : List Def) (found : Ran) → Stays old new → IsWhyRan new r unit defs found → IsWhyRan old r unit defs found
 stay_ran old new r unit defs TooBig stays why = λ script h. why script (stays r.script.now ∙ h)

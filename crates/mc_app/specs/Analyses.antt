@@ -2,19 +2,33 @@
 use Rattle.std.specs.Prelude.{◌≡◌, ◌≤◌, ℕ, List, Some, length, option_map}
 use Rattle.mc_c_syntax.specs.Ast.Trees.{UnitTree}
 use Rattle.mc_find.specs.Analysis.Findings.{IsAnalysis}
+use Rattle.mc_find.specs.declared.analysis.analysis.Analysis.{Analysis}
+use Rattle.mc_find.specs.declared.analysis.analysis.Analysis.TheVariants.{Safe, Alarms, Paths, Unknown}
 use Rattle.mc_flow.specs.declared.defs.rules.Def.{Def}
 use Rattle.mc_flow.specs.declared.graph.Flow.{Flow}
+use Rattle.mc_app.specs.Blocked.{FaultsComeBy}
+use Rattle.mc_app.specs.Checks.{IsSafeUnit}
 use Rattle.mc_app.specs.declared.words.words.Analyse.{Analyse}
 use Rattle.mc_app.specs.Words.Words.{AsksAnalyse}
 use Rattle.mc_load.specs.Lowered.Graphs.{AreLong, IsGraphOf}
 use Rattle.mc_app.specs.declared.analysing.Analysed.{Analysed}
 use Rattle.mc_app.specs.declared.analysing.Analysed.TheVariants.{TooLong, Found}
 
--- each flow graph of the program is too long; or this is found of one that is not; where that one has loops, a search may give up
+-- what is found of this flow graph of the program means for its runs: with a certificate none has a fault; each that has one comes
+-- by one of the blocked branches of the chain that is reported
+abbrev pub MeansForRuns : (start : List ℕ) (unit : UnitTree) (defs : List Def) (flow : Flow) (found : Analysis) → IsAnalysis flow defs found → Type 0
+MeansForRuns start unit defs flow (Safe f) proved = IsSafeUnit start unit defs
+MeansForRuns start unit defs flow (Alarms f count) alarming = FaultsComeBy start unit defs flow alarming.stuck
+MeansForRuns start unit defs flow (Paths document) crowded = Unit {0}
+MeansForRuns start unit defs flow Unknown looping = Unit {0}
+
+-- each flow graph of the program is too long; or this is found of one that is not, and what it means; where that one has loops, a
+-- search may give up
 abbrev pub IsWhyAnalysed : Analyse → UnitTree → List Def → Analysed → Type 0
 IsWhyAnalysed a unit defs TooLong = AreLong a.start.now unit defs
-IsWhyAnalysed a unit defs (Found analysis) =
-    (flow : Flow) × IsGraphOf a.start.now unit defs flow × (length flow.points ≤ 10000) × IsAnalysis flow defs analysis
+IsWhyAnalysed a unit defs (Found found) =
+    (flow : Flow) × IsGraphOf a.start.now unit defs flow × (length flow.points ≤ 10000)
+    × ((is : IsAnalysis flow defs found) × MeansForRuns a.start.now unit defs flow found is)
 
 -- the words ask for an analysis whose document goes into the file of this name
 abbrev pub IsTarget : List (List ℕ) → List ℕ → Type 0

@@ -3,12 +3,11 @@ use Rattle.std.specs.Prelude.{◌≡◌, ℕ, Bool, List, length}
 use Rattle.mc_lines.specs.Cert.Lines.{lines_of}
 use Rattle.mc_flow.specs.declared.defs.rules.Def.{Def}
 use Rattle.mc_flow.specs.declared.graph.Flow.{Flow}
-use Rattle.mc_flow.specs.Steps.{IsSafeFlow}
 use Rattle.mc_document.specs.declared.judge.judge.Judge.{Judge}
 use Rattle.mc_document.specs.declared.judge.verdict.Verdict.{Verdict}
-use Rattle.mc_document.specs.declared.judge.verdict.Verdict.TheVariants.{Safe, Alarms, Refused}
+use Rattle.mc_document.specs.declared.judge.verdict.Verdict.TheVariants.{Alarms}
 use Rattle.mc_document.specs.Judge.Stages.{HasHeard}
-use Rattle.mc_document.specs.Judge.Verdicts.{IsVerdict, Tells}
+use Rattle.mc_document.specs.Judge.Verdicts.{IsChain, IsVerdict, Tells}
 use Rattle.mc_kernel.specs.Branches.{Path}
 use Rattle.mc_kernel.specs.Certificates.{FaultsOnlyStuck}
 use Rattle.mc_kernel.specs.Judges.{Knowledge}
@@ -20,20 +19,14 @@ abbrev pub IsRightVerdict : Flow → List Def → List ℕ → Verdict → Type 
 IsRightVerdict flow defs document verdict =
     (k : Knowledge) (well : RawState → Bool) → IsJudge k well flow defs → IsVerdict k well flow defs (lines_of document) verdict
 
--- there are so many stuck branches, and every run that has a fault comes by one of them
-abbrev pub FindsFaults : Flow → List Def → ℕ → Type 0
-FindsFaults flow defs count = (stuck : List Path) × (count ≡ length stuck) × FaultsOnlyStuck flow defs stuck
-
--- what a verdict means for runs
-abbrev pub MeansForRuns : Flow → List Def → Verdict → Type 0
-MeansForRuns flow defs Safe = IsSafeFlow flow defs
-MeansForRuns flow defs (Alarms count) = FindsFaults flow defs count
-MeansForRuns flow defs (Refused cause) = Unit {0}
-
--- this is the verdict on the document, also without a judge, and what it means
+-- this is the verdict on the document, also without a judge
 abbrev pub IsVerdictOn : Flow → List Def → List ℕ → Verdict → Type 0
-IsVerdictOn flow defs document verdict =
-    Tells flow defs document verdict × IsRightVerdict flow defs document verdict × MeansForRuns flow defs verdict
+IsVerdictOn flow defs document verdict = Tells flow defs document verdict × IsRightVerdict flow defs document verdict
+
+-- so many alarms are said of a chain with so many blocked branches, by one of which every run of the flow graph that has a fault comes
+abbrev pub AlarmsAreFound : Flow → List Def → List ℕ → Verdict → Type 0
+AlarmsAreFound flow defs document verdict = (count : ℕ) → verdict ≡ Alarms count
+    → (stuck : List Path) × IsChain flow defs document stuck × (count ≡ length stuck) × FaultsOnlyStuck flow defs stuck
 
 -- the judge has read the text, by whatever judges rightly
 abbrev pub IsHeard : List ℕ → Judge → Type 0

@@ -16,11 +16,11 @@ use crate::words::Analyse;
 use mc_c_check::Bound;
 use mc_c_grammar::places::ascending_places_differ;
 use mc_find::analysis::{Analysis, analyse};
-use mc_kernel::certificates_are_safe;
+use mc_kernel::{certificates_are_safe, last_pass_finds_faults};
 use mc_load::inputs::{Sources, read};
 use mc_load::lowered::graph;
 use mc_load::read::programs_have_distinct_places;
-use mc_lower_laws::scoped::safe_flow_graphs_mean_safe_trees;
+use mc_lower_laws::scoped::{faults_are_in_flow_graphs, safe_flow_graphs_mean_safe_trees};
 use mc_outside::{FileFault, Files};
 use std::alloc::{AllocError, Global};
 
@@ -40,9 +40,12 @@ fn analyse_bound(alloc: Global, names: Analyse<'_>, bound: &Bound) -> Result<Ana
     ensures safe { IfOk result (λ found. (f : Findings) → found ≡ Analysed.Found (Safe f)
         → IsSafeUnit names.entry.start.now (unit_of bound.now.typed.unit) bound.now.defs) }
 {
-    // For the proof alone: a certificate means a safe flow graph, and that a safe program.
+    // For the proof alone: a certificate means a safe flow graph, and that a safe program; a chain without changes tells by which
+    // branches faults come, and a program's faults are those of its flow graph.
     certificates_are_safe();
     safe_flow_graphs_mean_safe_trees();
+    last_pass_finds_faults();
+    faults_are_in_flow_graphs();
     programs_have_distinct_places();
     ascending_places_differ();
     let defs = bound.defs();

@@ -17,7 +17,7 @@ use mc_document::judge::Verdict;
 use mc_load::inputs::{Sources, read};
 use mc_load::lowered::graph;
 use mc_load::read::programs_have_distinct_places;
-use mc_lower_laws::scoped::safe_flow_graphs_mean_safe_trees;
+use mc_lower_laws::scoped::{faults_are_in_flow_graphs, safe_flow_graphs_mean_safe_trees};
 use mc_outside::{FileFault, Files};
 use std::alloc::Global;
 
@@ -44,8 +44,9 @@ fn check<F: Files>(
     ensures same { Stays (F.holds files.old) (F.holds files.new) }
     ensures cause { HasCause (F.faults files.old) (F.faults files.new) result }
 {
-    // For the proof alone: a safe flow graph means a safe program.
+    // For the proof alone: a safe flow graph means a safe program, whose faults are those of its flow graph.
     safe_flow_graphs_mean_safe_trees();
+    faults_are_in_flow_graphs();
     programs_have_distinct_places();
     ascending_places_differ();
     let defs = bound.defs();

@@ -4,7 +4,7 @@ ghost use Rattle.mc_flow.specs.Steps.{IsSafeFlow};
 ghost use Rattle.mc_flow.specs.Valid.{IsValid};
 ghost use Rattle.mc_document.specs.Judge.Stages.{Hears, StaysFor};
 ghost use Rattle.mc_outside.specs.Outside.{HasCause, Stays, WhereTold};
-ghost use Rattle.mc_app.specs.Documents.{IsHeard, IsVerdictOn};
+ghost use Rattle.mc_app.specs.Documents.{AlarmsAreFound, IsHeard, IsVerdictOn};
 
 use mc_document::judge::{Judge, Verdict};
 use mc_flow::{Defs, Flow};
@@ -80,6 +80,7 @@ pub fn verdict_in<F: Files>(
     requires { IsValid flow.now defs.now }
     ensures verdict { WhereTold (F.holds files.old name.now) (λ document. IfOk result (IsVerdictOn flow.now defs.now document)) }
     ensures safe { IfOk result (λ v. v ≡ Verdict.Safe → IsSafeFlow flow.now defs.now) }
+    ensures faults { WhereTold (F.holds files.old name.now) (λ document. IfOk result (AlarmsAreFound flow.now defs.now document)) }
     ensures same { Stays (F.holds files.old) (F.holds files.new) }
     ensures cause { HasCause (F.faults files.old) (F.faults files.new) result }
 {

@@ -1,11 +1,19 @@
 // What holds of two calls of the program.
+ghost use Rattle.std.specs.Prelude.{ℕ, List};
 ghost use Rattle.mc_app.specs.Alike.{AreJudgedAlike};
+ghost use Rattle.mc_app.specs.Answers.{IsWhyWords, status_of};
+ghost use Rattle.mc_app.specs.Statuses.{IsComplete};
+ghost use Rattle.mc_app.specs.declared.answer.Answer.{Answer};
+ghost use Rattle.mc_load.specs.Inputs.Inputs.{Holds};
 
 use mc_def_read::texts_are_read_once as definitions_are_read_once;
+use mc_document::laws::open_documents_end_early;
+use mc_kernel::oracle::judges_are_there;
 use mc_load::read::{programs_are_not_refused, texts_are_read_once};
 use mc_lower_laws::single::flow_graphs_are_one;
 
-/// Where an analysis finds a program safe, or finds alarms, a check of the document that it has left ends with the same status.
+/// Where an analysis finds a program safe, or finds alarms, a check of the document that it has left ends with the same status;
+/// where it came to its limit, the document ends early.
 pub fn documents_are_judged_alike()
     ensures { AreJudgedAlike }
 {
@@ -13,4 +21,19 @@ pub fn documents_are_judged_alike()
     programs_are_not_refused();
     definitions_are_read_once();
     flow_graphs_are_one();
+    judges_are_there();
+    open_documents_end_early();
+}
+
+/// Where the words give a command whose program and definitions are known, are read and fit, an answer that has its cause is that of
+/// the command.
+pub fn answers_are_complete()
+    ensures { (holds : Holds) (words : List (List ℕ)) (a : Answer) → IsWhyWords holds words a → IsComplete holds words (status_of a) }
+{
+    texts_are_read_once();
+    programs_are_not_refused();
+    definitions_are_read_once();
+    flow_graphs_are_one();
+    judges_are_there();
+    open_documents_end_early();
 }

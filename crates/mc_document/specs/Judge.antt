@@ -1,3 +1,4 @@
 pub mod Verdicts
 pub mod Cuts
 pub mod Stages
+pub mod Laws

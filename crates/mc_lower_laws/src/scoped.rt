@@ -2,4 +2,6 @@
 
 mod laws;
 
-pub use laws::{resolved_programs_are_scoped, safe_flow_graphs_mean_safe_trees};
+pub use laws::{
+    faults_are_in_flow_graphs, resolved_programs_are_scoped, safe_flow_graphs_mean_safe_trees,
+};

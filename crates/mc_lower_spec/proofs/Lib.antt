@@ -11,7 +11,7 @@ pub mod Deciding
 pub mod Storing
 pub mod Performing
 pub mod Freeing
-pub mod Safe
+pub mod Faulting
 pub mod Allocating
 pub mod Whole
 pub mod Adding

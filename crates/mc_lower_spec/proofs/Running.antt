@@ -9,8 +9,9 @@ use Rattle.mc_semantics.specs.Resolved.Steps as resolved
 use Rattle.mc_semantics.specs.Resolved.Steps.{passed}
 use Rattle.mc_lower_spec.specs.Graphs.{Graph, plain, Stage, stage, nowhere, IsPoint, appends, creates}
 use Rattle.mc_lower_spec.specs.Lowering.{in_body, LowersAll, Answers, answers_none, answers, Falls, falls_in_main, falls, Makes, makes, IsLowering}
-use Rattle.mc_lower_spec.specs.Runs.{ComesTo, FlowStep, RunsMatch}
+use Rattle.mc_lower_spec.specs.Runs.{ComesTo, FaultsMatch, FlowStep, RunsMatch}
 use Rattle.mc_lower_spec.specs.Scopes.{IsScoped, AreScoped}
+use Rattle.mc_lower_spec.proofs.Faulting.{faults_match}
 use Rattle.mc_lower_spec.proofs.Simulating.{alike, longer, left_of_one}
 use Rattle.mc_lower_spec.proofs.SourceOnce.{source_once}
 use Rattle.mc_lower_spec.proofs.FlowOnce.{flow_once}
@@ -95,6 +96,6 @@ made_match {g} {entry} same once all_scoped scoped (makes {out = out} (appends {
 pub runs_match : (g : Graph) (entry : Function) (out count : ℕ) → IsLowering g entry out count → AreScoped g.program → RunsMatch g entry
 runs_match g entry out count l all_scoped = made_match (l.variables ∙ sym l.owners) l.once all_scoped (all_scoped g.program.entry entry l.there) l.made
 
--- a safe flow graph means a safe program
-pub lowered_safe : (g : Graph) (entry : Function) (out count : ℕ) → IsLowering g entry out count → AreScoped g.program → flow.IsSafeFlow g.flow g.program.defs → resolved.IsSafeProgram g.program entry
-lowered_safe g entry out count l all_scoped safe = Rattle.mc_lower_spec.proofs.Safe.safe_program g entry (runs_match g entry out count l all_scoped) safe
+-- a fault of the program is one of its flow graph
+pub lowered_faults : (g : Graph) (entry : Function) (out count : ℕ) → IsLowering g entry out count → AreScoped g.program → FaultsMatch g entry
+lowered_faults g entry out count l all_scoped = faults_match g entry (runs_match g entry out count l all_scoped)

@@ -1,5 +1,7 @@
 -- What runs of a program and of its flow graph have in common.
 use Rattle.std.specs.Prelude.{◌≡◌, ◌↔◌, ℕ, List, Option, Some, None, slice_get}
+use Rattle.mc_base.specs.declared.plain.FaultKind.{FaultKind}
+use Rattle.mc_base.specs.declared.text.place.Place.{Place}
 use Rattle.mc_flow.specs.Runs.{Final, Outcome, next, last, ended, stopped, fault, Reaches}
 use Rattle.mc_flow.specs.Heap.Choices.{Choice}
 use Rattle.mc_flow.specs.Steps as flow
@@ -34,3 +36,10 @@ RunsMatch g entry =
     (choices : List Choice) (final : Final)
     → ComesTo (resolved.Step g.program) (resolved.start entry) choices final
     ↔ ComesTo (FlowStep g) (flow.start g.flow) choices final
+
+-- every fault of the program is one of its flow graph, to which the run with the same choices comes
+abbrev pub FaultsMatch : Graph → Function → Type 0
+FaultsMatch g entry =
+    (n : ℕ) (choices : List Choice) (kind : FaultKind) (place : Place)
+    → Reaches (resolved.Step g.program) n (resolved.start entry) choices (fault kind place)
+    → ComesTo (flow.Step g.flow g.program.defs) (flow.start g.flow) choices (fault kind place)

@@ -2,14 +2,12 @@
 ghost use Rattle.mc_lower_spec.specs.Examples.{calls_graph, calls_main, commands_graph, commands_main, conditions_graph, conditions_main, do_graph, do_main};
 ghost use Rattle.mc_lower_spec.specs.Examples.{fields_graph, fields_main, for_graph, for_main, returns_graph, returns_main, run_function, run_graph};
 ghost use Rattle.mc_lower_spec.specs.Examples.{values_graph, values_main, while_graph, while_main, whole_graph};
-ghost use Rattle.mc_flow.specs.Steps.{IsSafeFlow};
 ghost use Rattle.mc_lower_spec.specs.Graphs.{Graph};
 ghost use Rattle.mc_lower_spec.specs.Lowering.{IsLowering, Makes};
-ghost use Rattle.mc_lower_spec.specs.Runs.{RunsMatch};
+ghost use Rattle.mc_lower_spec.specs.Runs.{FaultsMatch, RunsMatch};
 ghost use Rattle.mc_lower_spec.specs.Scopes.{AreScoped};
 ghost use Rattle.std.specs.Prelude.{ℕ};
 ghost use Rattle.mc_semantics.specs.Resolved.Programs.{Function};
-ghost use Rattle.mc_semantics.specs.Resolved.Steps.{IsSafeProgram};
 
 /// The flow graphs of small programs, which were worked out by hand: expressions and assignments, fields, nested conditions, each
 /// loop with `break` and `continue`, commands, two occurrences of a function, and results that are returned on.
@@ -41,8 +39,9 @@ pub fn runs_match()
         → RunsMatch g entry }
 {}
 
-/// A safe flow graph means a safe program, if what is written is in scope.
-pub fn safe_flow_graphs_mean_safe_programs()
+/// Every fault of a program is one of its flow graph, to which the run with the same choices comes, if what is written is in
+/// scope.
+pub fn faults_match()
     ensures { (g : Graph) (entry : Function) (out count : ℕ) → IsLowering g entry out count → AreScoped g.program
-        → IsSafeFlow g.flow g.program.defs → IsSafeProgram g.program entry }
+        → FaultsMatch g entry }
 {}

@@ -6,7 +6,4 @@
 mod laws;
 pub mod length;
 
-pub use laws::{
-    runs_match, safe_flow_graphs_mean_safe_programs, small_programs_are_lowered,
-    small_programs_are_scoped,
-};
+pub use laws::{faults_match, runs_match, small_programs_are_lowered, small_programs_are_scoped};

@@ -1,6 +1,7 @@
 use Rattle.std.proofs.Common.{◌≡◌, ◌≤◌, ℕ, List, length, subst, sym}
 use Rattle.mc_find.specs.declared.analysis.analysis.Analysis.{Analysis}
 use Rattle.mc_find.specs.declared.analysis.analysis.Analysis.TheVariants.{Safe}
+use Rattle.mc_find.specs.declared.analysis.analysis.Findings.{Findings}
 use Rattle.mc_find.specs.Analysis.Findings.{IsAnalysis}
 use Rattle.mc_c_syntax.specs.Ast.Views.{unit_of}
 use Rattle.mc_flow.specs.declared.defs.rules.Def.{Def}
@@ -8,7 +9,9 @@ use Rattle.mc_flow.specs.Valid.{IsValid}
 use Rattle.mc_load.specs.Inputs.Texts.{IsWellFormed}
 use Rattle.mc_lower.specs.declared.lowering.Lowered.{Lowered}
 use Rattle.mc_load.specs.Lowered.Graphs.{IsGraphOf}
-use Rattle.mc_app.proofs.Safe.{has_entry, safe_graph}
+use Rattle.mc_app.specs.Checks.{IsSafeUnit}
+use Rattle.mc_app.proofs.Meaning.{found_means}
+use Rattle.mc_app.proofs.Safe.{graph_faults, has_entry, safe_graph}
 use Rattle.mc_app.proofs.analysing.analyse_bound.Goals as goal
 use Rattle.mc_load.proofs.InputsLemmas.Picking.{only_ok}
 
@@ -24,7 +27,15 @@ returns-in_ok-found-in-Ok-clause-why c =
     let made = only_ok c.in_ok-lowered.field-0 x (λ (y : Lowered). IsGraphOf bound.typed.entry unit bound.defs y.flow) c.in-Ok.is c.in_ok-lowered.ensures.graph in
     let graph = subst (λ (s : List ℕ). IsGraphOf s unit bound.defs flow) c.requires.start made in
     let short = only_ok c.in_ok-lowered.field-0 x (λ (y : Lowered). length y.flow.points ≤ 10000) c.in-Ok.is c.in_ok-lowered.ensures.short in
-    (flow, graph, short, subst (λ (ds : List Def). IsAnalysis flow ds c.in_ok-found-in-Ok.found) c.defs-defs.ensures.same c.in_ok-found-in-Ok.ensures)
+    let found = c.in_ok-found-in-Ok.found in
+    let is = subst (λ (ds : List Def). IsAnalysis flow ds found) c.defs-defs.ensures.same c.in_ok-found-in-Ok.ensures in
+    let valid = only_ok c.in_ok-lowered.field-0 x (λ (y : Lowered). IsValid y.flow bound.defs) c.in-Ok.is c.in_ok-lowered.ensures.valid in
+    let comes = graph_faults c.faults_are_in_flow_graphs.ensures c.ascending_places_differ.ensures c.programs_have_distinct_places.ensures c.args.names.start.now unit bound.defs flow in
+    let safe : (f : Findings) → found ≡ Safe f → IsSafeUnit c.args.names.start.now unit bound.defs = λ f e.
+    let proved = subst (λ (a : Analysis). IsAnalysis flow bound.defs a) e is in
+    safe_graph c.safe_flow_graphs_mean_safe_trees.ensures c.ascending_places_differ.ensures c.programs_have_distinct_places.ensures has_entry c.args.names.start.now unit bound.defs flow c.requires.well_formed graph
+    (c.certificates_are_safe.ensures flow bound.defs proved.lines valid proved.valid) in
+    (flow, graph, short, (is, found_means c.args.names.start.now unit bound.defs flow (λ stuck only. comes stuck c.requires.well_formed graph only) c.last_pass_finds_faults.ensures valid found safe is))
 
 pub returns-in_ok-found-in-Ok-clause-safe : goal.returns-in_ok-found-in-Ok-clause-safe
 returns-in_ok-found-in-Ok-clause-safe c = λ f good.

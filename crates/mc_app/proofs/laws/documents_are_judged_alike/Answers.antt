@@ -8,4 +8,6 @@ returns c =
       not_refused = c.programs_are_not_refused.ensures;
       defined_once = c.texts_are_read_once-2.ensures;
       one_graph = c.flow_graphs_are_one.ensures;
+      judged = c.judges_are_there.ensures;
+      early = c.open_documents_end_early.ensures;
     })

@@ -1,8 +1,12 @@
-use Rattle.std.proofs.Common.{◌∙◌, map, option_map, sym}
+use Rattle.std.proofs.Common.{◌∙◌, map, option_map, subst, sym}
 use Rattle.std.specs.Prelude.{string_bytes}
+use Rattle.mc_app.specs.Alike.{IsLikeAnalysis}
 use Rattle.mc_app.specs.Answers.{document_of}
 use Rattle.mc_app.proofs.Leaving.{answer_ends, fault_ends, leaves_document, only_target, target_part}
+use Rattle.mc_app.specs.Statuses.{IsComplete}
+use Rattle.mc_app.specs.declared.answer.Status.{Status}
 use Rattle.mc_app.proofs.Printing.{part_of_answer}
+use Rattle.mc_app.proofs.Telling.{alarms_tell, answer_is_like, fault_completes, fault_is_like, fault_tells}
 use Rattle.mc_app.proofs.top.memcad.Goals as goal
 
 pub returns-in-Err-keep-clause-why : goal.returns-in-Err-keep-clause-why
@@ -101,3 +105,20 @@ returns-clause-leaves_part g c =
     let new = g.F.Files.holds c.keep.new.files in
     let target = option_map (λ s. s.now) c.in-Ok.reply.target in
     target_part words target old mid new c.in-Ok.reply.answer c.keep.result c.in-Ok.ensures.target c.in-Ok.ensures.same c.in-Ok.ensures.why c.keep.ensures.kept
+
+pub returns-clause-alarms : goal.returns-clause-alarms
+returns-clause-alarms g c = λ is.
+    alarms_tell (g.F.Files.holds c.args.files.now) (map string_bytes c.args.words.now) c.in-Ok.reply.answer _ _ c.in-Ok.ensures.why c.in-Ok-tell.ensures.adds (sym c.status.ensures ∙ is)
+
+pub returns-clause-complete : goal.returns-clause-complete
+returns-clause-complete g c =
+    let holds = g.F.Files.holds c.args.files.now in
+    let words = map string_bytes c.args.words.now in
+    subst (λ (s : Status). IsComplete holds words s) (sym c.status.ensures) (c.answers_are_complete.ensures holds words c.in-Ok.reply.answer c.in-Ok.ensures.why)
+
+pub returns-clause-alike : goal.returns-clause-alike
+returns-clause-alike g c =
+    let holds = g.F.Files.holds c.args.files.now in
+    let words = map string_bytes c.args.words.now in
+    let like = answer_is_like c.documents_are_judged_alike.ensures holds words c.in-Ok.reply.answer _ _ c.in-Ok.ensures.why c.in-Ok-tell.ensures.adds in
+    subst (λ (s : Status). IsLikeAnalysis holds words (g.K.Sink.written c.args.out.now) (g.K.Sink.written c.tell.new.out) s) (sym c.status.ensures) like

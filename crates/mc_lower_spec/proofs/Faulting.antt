@@ -1,4 +1,4 @@
--- Where runs match, a safe flow graph means a safe program.
+-- Where runs match, so do faults.
 use Rattle.std.proofs.Common.{◌≡◌, inl, inr, ℕ, zero, suc, List, Option, Some, None, sym, subst}
 use Rattle.std.specs.Prelude.{slice_get}
 use Rattle.mc_base.specs.declared.plain.FaultKind.{FaultKind}
@@ -7,9 +7,8 @@ use Rattle.mc_base.specs.declared.text.place.Place.{Place}
 use Rattle.mc_flow.specs.Heap.Choices.{Choice}
 use Rattle.mc_flow.specs.Steps as flow
 use Rattle.mc_semantics.specs.Resolved.Programs.{Function}
-use Rattle.mc_semantics.specs.Resolved.Steps.{IsSafeProgram}
 use Rattle.mc_lower_spec.specs.Graphs.{Graph, Role, plain, head, merge, stop}
-use Rattle.mc_lower_spec.specs.Runs.{FlowStep, told, RunsMatch}
+use Rattle.mc_lower_spec.specs.Runs.{FlowStep, told, FaultsMatch, RunsMatch}
 
 -- the telling of stops changes neither steps nor faults
 told_next : (role : Option Role) (s : flow.Result) (d : flow.Config) (rest : List Choice) → next d rest ≡ told role s → s ≡ next d rest
@@ -40,7 +39,7 @@ untold g (suc n) c choices kind place (inl (s, step, e)) =
 untold g (suc n) c choices kind place (inr (d, rest, (s, step, e), run)) =
     inr (d, rest, subst (λ z. flow.Step g.flow g.program.defs c choices z) (told_next (slice_get g.roles c.point) s d rest e) step, untold g n d rest kind place run)
 
-pub safe_program : (g : Graph) (entry : Function) → RunsMatch g entry → flow.IsSafeFlow g.flow g.program.defs → IsSafeProgram g.program entry
-safe_program g entry match safe n choices kind place run =
+pub faults_match : (g : Graph) (entry : Function) → RunsMatch g entry → FaultsMatch g entry
+faults_match g entry match n choices kind place run =
     let there = (match choices (fault kind place)).0 (n, run) in
-    safe there.0 choices kind place (untold g there.0 (flow.start g.flow) choices kind place there.1)
+    (there.0, untold g there.0 (flow.start g.flow) choices kind place there.1)

@@ -1,0 +1,36 @@
+-- What verdicts and findings mean for the runs of a program.
+use Rattle.std.proofs.Common.{◌≡◌, ℕ, List, [], refl}
+use Rattle.mc_c_syntax.specs.Ast.Trees.{UnitTree}
+use Rattle.mc_document.specs.declared.judge.verdict.Verdict.{Verdict}
+use Rattle.mc_document.specs.declared.judge.verdict.Verdict.TheVariants as verdict
+use Rattle.mc_find.specs.Analysis.Findings.{IsAnalysis}
+use Rattle.mc_find.specs.declared.analysis.analysis.Analysis.{Analysis}
+use Rattle.mc_find.specs.declared.analysis.analysis.Analysis.TheVariants.{Safe, Alarms, Paths, Unknown}
+use Rattle.mc_find.specs.declared.analysis.analysis.Findings.{Findings}
+use Rattle.mc_flow.specs.declared.defs.rules.Def.{Def}
+use Rattle.mc_flow.specs.declared.graph.Flow.{Flow}
+use Rattle.mc_flow.specs.Valid.{IsValid}
+use Rattle.mc_kernel.specs.Branches.{Path}
+use Rattle.mc_kernel.specs.Certificates.{FaultsOnlyStuck, LastPassFindsFaults}
+use Rattle.mc_app.specs.Analyses as analyses
+use Rattle.mc_app.specs.Blocked.{FaultsComeBy}
+use Rattle.mc_app.specs.Checks as checks
+use Rattle.mc_app.specs.Checks.{IsSafeUnit}
+use Rattle.mc_app.specs.Documents.{AlarmsAreFound}
+
+module _ (start : List ℕ) (unit : UnitTree) (defs : List Def) (flow : Flow) (comes : (stuck : List Path) → FaultsOnlyStuck flow defs stuck → FaultsComeBy start unit defs flow stuck) where
+  pub verdict_means : (document : List ℕ) (v : Verdict) → (v ≡ verdict.Safe → IsSafeUnit start unit defs) → AlarmsAreFound flow defs document v → checks.MeansForRuns start unit defs flow document v
+  verdict_means document verdict.Safe safe found = safe refl
+  verdict_means document (verdict.Alarms count) safe found =
+      let chain = found count refl in
+      (chain.0, chain.1, chain.2, comes chain.0 chain.3)
+  verdict_means document (verdict.Refused cause) safe found = tt
+
+  pub found_means : LastPassFindsFaults → IsValid flow defs → (found : Analysis) → ((f : Findings) → found ≡ Safe f → IsSafeUnit start unit defs) → (is : IsAnalysis flow defs found)
+      → analyses.MeansForRuns start unit defs flow found is
+  found_means faults valid (Safe f) safe is = safe f refl
+  found_means faults valid (Alarms f count) safe is =
+      let chain = is.chain in
+      comes is.stuck (faults flow defs chain.cuts [] chain.rules is.stuck valid chain.pass)
+  found_means faults valid (Paths document) safe is = tt
+  found_means faults valid Unknown safe is = tt

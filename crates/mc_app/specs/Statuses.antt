@@ -1,0 +1,78 @@
+-- What a call's status means where its words give a command.
+use Rattle.std.specs.Prelude.{◌≡◌, ◌<◌, ◌⊎◌, ℕ, List, Option, Some, Ok, length}
+use Rattle.mc_c_syntax.specs.Ast.Trees.{UnitTree}
+use Rattle.mc_document.specs.Judge.Verdicts.{IsChain}
+use Rattle.mc_flow.specs.declared.defs.rules.Def.{Def}
+use Rattle.mc_flow.specs.declared.graph.Flow.{Flow}
+use Rattle.mc_follow.specs.Report.Report.{IsChainReport}
+use Rattle.mc_kernel.specs.Branches.{Path}
+use Rattle.mc_load.specs.Inputs.Inputs.{AreInputs, Holds}
+use Rattle.mc_load.specs.Inputs.Texts.{AreDefinitions, IsProgramHere}
+use Rattle.mc_load.specs.Lowered.Graphs.{IsGraphOf}
+use Rattle.mc_outside.specs.Outside.{AddsIfTold, WhereTold}
+use Rattle.mc_app.specs.declared.analysing.Analysed.{Analysed}
+use Rattle.mc_app.specs.declared.answer.Status.{Status}
+use Rattle.mc_app.specs.declared.answer.Status.TheVariants.{Device, Memory}
+use Rattle.mc_app.specs.declared.checking.Checked.{Checked}
+use Rattle.mc_app.specs.declared.running.Ran.{Ran}
+use Rattle.mc_app.specs.declared.words.words.Request.{Request}
+use Rattle.mc_app.specs.declared.words.words.Request.TheVariants as request
+use Rattle.mc_app.specs.Analyses.{IsWhyAnalysed}
+use Rattle.mc_app.specs.Answers.{AsksForSafety, analysed_status, checked_status, ran_status, sources_of}
+use Rattle.mc_app.specs.Blocked.{FaultsComeBy}
+use Rattle.mc_app.specs.Checks.{IsWhyChecked}
+use Rattle.mc_app.specs.Runs.{IsWhyRan}
+use Rattle.mc_app.specs.Words.Words.{Asks}
+
+-- ---- alarms
+
+-- every run of the program that has a fault comes by one of these blocked branches, of which there are some
+pub record TellsFaults (start : List ℕ) (unit : UnitTree) (defs : List Def) (stuck : List Path) (flow : Flow) : Type 0 where
+  pub graph : IsGraphOf start unit defs flow
+  pub some : 0 < length stuck
+  pub finds : FaultsComeBy start unit defs flow stuck
+
+-- these are the blocked branches of the document that a check was given, or those whose report an analysis has printed
+abbrev pub AlarmsMean : Holds → (old new : Option (List ℕ)) → UnitTree → List Def → Request → Type 0
+AlarmsMean holds old new unit defs (request.Check c) =
+    WhereTold (holds c.document.now)
+    (λ document. (flow : Flow) × (stuck : List Path) × IsChain flow defs document stuck × TellsFaults c.start.now unit defs stuck flow)
+AlarmsMean holds old new unit defs (request.Run r) = Unit {0}
+AlarmsMean holds old new unit defs (request.Analyse a) =
+    (flow : Flow) × (stuck : List Path) × (report : List ℕ) × IsChainReport flow defs stuck report
+    × AddsIfTold old report new (Ok tt) × TellsFaults a.start.now unit defs stuck flow
+
+-- the words ask for a check or an analysis, and where it is known what the files of its program and definitions hold, they are a
+-- program and its definitions, of whose faults the alarms tell
+abbrev pub AlarmsTell : Holds → List (List ℕ) → (old new : Option (List ℕ)) → Type 0
+AlarmsTell holds words old new =
+    (r : Request) → Asks words r → AsksForSafety r
+    → WhereTold (holds (sources_of r).program.now) (λ text. WhereTold (holds (sources_of r).definitions.now) (λ definitions.
+    (unit : UnitTree) × (defs : List Def) × IsProgramHere (sources_of r).start.now text unit × AreDefinitions unit defs definitions
+    × AlarmsMean holds old new unit defs r))
+
+-- ---- completeness
+
+-- the words ask for this, and the files of its program and definitions are known, are read, and fit
+pub record IsReady (holds : Holds) (words : List (List ℕ)) (r : Request) (unit : UnitTree) (defs : List Def) : Type 0 where
+  pub asks : Asks words r
+  pub text : List ℕ
+  pub definitions : List ℕ
+  pub is_text : holds (sources_of r).program.now ≡ Some text
+  pub are_definitions : holds (sources_of r).definitions.now ≡ Some definitions
+  pub inputs : AreInputs holds (sources_of r) unit defs
+
+-- a command whose program and definitions are these ends with this status: a check by its document alone, a run by its script and
+-- its steps, an analysis by what it found
+abbrev pub EndsBy : Holds → Request → UnitTree → List Def → Status → Type 0
+EndsBy holds (request.Check c) unit defs status =
+    (found : Checked) × IsWhyChecked holds c unit defs found × (status ≡ checked_status found)
+EndsBy holds (request.Run r) unit defs status = (found : Ran) × IsWhyRan holds r unit defs found × (status ≡ ran_status found)
+EndsBy holds (request.Analyse a) unit defs status =
+    (found : Analysed) × IsWhyAnalysed a unit defs found × (status ≡ analysed_status found)
+
+-- a command that has its program and definitions ends by them, unless the device failed or memory ran out
+abbrev pub IsComplete : Holds → List (List ℕ) → Status → Type 0
+IsComplete holds words status =
+    (r : Request) (unit : UnitTree) (defs : List Def) → IsReady holds words r unit defs
+    → (status ≡ Device) ⊎ ((status ≡ Memory) ⊎ ((q : Request) × Asks words q × EndsBy holds q unit defs status))
