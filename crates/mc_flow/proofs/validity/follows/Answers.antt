@@ -20,8 +20,7 @@ returns-then-may_follow c =
     let one = c.targets-next.result.0 in
     let two = option_to_list c.targets-next.result.1 in
     let qs = targets c.args.code.now in
-    let is : option_to_list one ++ two ≡ qs = c.targets-next.ensures.listed in
-    (
+    let is : option_to_list one ++ two ≡ qs = c.targets-next.ensures.listed in (
       λ t. All-same P qs (option_to_list one ++ two) (sym is) (All-append P (option_to_list one) two (c.may_follow.ensures.0 c.if-may_follow.true) (c.may_follow-then-may_follow.ensures.0 t)),
       λ all. c.may_follow-then-may_follow.ensures.1 (others P one two (All-same P (option_to_list one ++ two) qs is all)),
     )
@@ -32,8 +31,7 @@ returns-else-may_follow c =
     let one = c.targets-next.result.0 in
     let two = option_to_list c.targets-next.result.1 in
     let qs = targets c.args.code.now in
-    let is : option_to_list one ++ two ≡ qs = c.targets-next.ensures.listed in
-    (
+    let is : option_to_list one ++ two ≡ qs = c.targets-next.ensures.listed in (
       λ t. absurd (cc (t, c.if-may_follow.false)),
       λ all. c.may_follow.ensures.1 (first P one two (All-same P (option_to_list one ++ two) qs is all)),
     )
