@@ -35,7 +35,8 @@ class_at TokenKind.Number text = Class.OtherNumber
 class_at TokenKind.Mark text = cond (is_in grammar_marks text) (find mark_rows Class.OtherMark text) Class.OtherMark
 class_at TokenKind.End text = Class.End
 
-abbrev numberless : Class → Class
+-- the class, where all numbers are of one
+abbrev pub numberless : Class → Class
 numberless (Class.Number n) = Class.OtherNumber
 numberless c = c
 

@@ -24,7 +24,7 @@ use Rattle.mc_state.specs.declared.raw_state.RawState.{RawState}
 use Rattle.mc_state.specs.RawStates.{IsWellFormedRaw}
 use Rattle.mc_kernel.specs.Examples.{at}
 use Rattle.mc_kernel.specs.Readings.{heading}
-use Rattle.mc_kernel.proofs.ShownLemmas.Numbers.{all_at}
+use Rattle.mc_state.proofs.Lists.{all_at}
 use Rattle.mc_kernel.specs.Shown.Heads.{vars, behind_cut, IsMalformed, IsRead, kinds, good, with_vars, with_edge, with_written, with_kinds}
 
 not_true : (b : Bool) → (b ≡ true → ⊥) → b ≡ false

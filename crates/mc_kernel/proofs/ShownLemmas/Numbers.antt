@@ -1,5 +1,5 @@
 -- What a test that tells says of a state whose atoms are true by some numbers.
-use Rattle.std.proofs.Common.{◌≡◌, ◌≤◌, ℕ, zero, suc, pos, true, false, not, Some, List, [], ◌∷◌, length, slice_get, subst, arith}
+use Rattle.std.proofs.Common.{◌≡◌, ◌≤◌, zero, pos, true, false, not, List, ◌∷◌, length, arith}
 use Rattle.std.proofs.lemmas.Int.{ints}
 use Rattle.std.specs.Prelude.{ℤ, get_or}
 use Rattle.std.specs.List.{AllByRecursion}
@@ -14,6 +14,7 @@ use Rattle.mc_pure.specs.Laws.{IsTrue, DerivedIsTrue, TrueIsNotFalse}
 use Rattle.mc_pure.specs.Pure as known
 use Rattle.mc_pure.specs.Pure.{Pure, kind_atom, address_atom}
 use Rattle.mc_state.specs.Known.{Test, Tells, is_false}
+use Rattle.mc_state.proofs.Lists.{all_at}
 use Rattle.mc_state.proofs.Tests.{is_sound}
 use Rattle.mc_state.specs.State.{State, pure_of}
 use Rattle.mc_rules_logic.proofs.FoldLemmas.Refusing.{not_true, place_below}
@@ -25,11 +26,6 @@ valued values n = get_or (pos 0 ∷ values) n (pos 0)
 kind_true : (v : Valuation) (n : NodeId) (kind : Kind) → InKind kind (v n.0) → IsTrueAtom v (kind_atom n kind)
 kind_true v n Int h = h
 kind_true v n Ptr h = h
-
-pub all_at : {X : Type 0} (P : X → Type 0) (xs : List X) (place : ℕ) (x : X) → slice_get xs place ≡ Some x → AllByRecursion P xs → P x
-all_at P [] place x e a = absurd (cc e)
-all_at P (y ∷ ys) zero x e a = let same : y ≡ x = cc e in subst P same a.0
-all_at P (y ∷ ys) (suc place) x e a = all_at P ys place x e a.1
 
 -- of kinds, atoms and one block at most
 pub numbers_fit : (v : Valuation) (p : Pure) → v 0 ≡ pos 0 → AllByRecursion (λ k. InKind k.1 (v k.0.0)) p.kinds → AllByRecursion (IsTrueAtom v) p.written
