@@ -2,6 +2,7 @@ mod Members
 mod Stuck
 mod Once
 mod Counter
+mod Keeping
 mod Steady
 mod NamedKinds
 mod JointKinds
@@ -16,6 +17,7 @@ mod JoinsStand
 mod ExampleStands
 pub mod AlikeLemmas
 pub mod AnewLemmas
+pub mod AtomsLemmas
 pub mod ChainsLemmas
 pub mod RenameLemmas
 pub mod SameLemmas

@@ -17,5 +17,6 @@ pub use examples::{
     null_stands_for_join, refused_joins, segment_joins, stuck_joins,
 };
 pub use laws::{
-    joins_are_determined, joins_are_sound, joins_make_well, steps_are_determined, stuck_is_every,
+    joins_are_determined, joins_are_sound, joins_are_there, joins_make_well, steps_are_determined,
+    stuck_is_every,
 };
