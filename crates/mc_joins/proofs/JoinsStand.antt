@@ -20,9 +20,8 @@ use Rattle.mc_flow.specs.declared.defs.shapes.StructInfo.{StructInfo}
 use Rattle.mc_state.specs.Graph.Graph.{Edges, Graph, numbered}
 use Rattle.mc_pure_ops.specs.Join.Joint.{Pairs, IsLate, IsJointRange, IsOfBoth, sides}
 use Rattle.mc_pure.specs.Derived.{Follows, base}
-use Rattle.mc_pure.specs.Laws.{IsTrue}
 use Rattle.mc_pure.specs.Pure as pure
-use Rattle.mc_pure.specs.Pure.{Kinds, HasKind, kind_atom, kind_of}
+use Rattle.mc_pure.specs.Pure.{Kinds, HasKind, kind_of}
 use Rattle.mc_state.specs.declared.line.Side.{Side}
 use Rattle.mc_state.specs.declared.line.Side.TheVariants.{Left, Right}
 use Rattle.mc_state.specs.Fits.{IsWellMade}
@@ -37,6 +36,7 @@ use Rattle.mc_joins.proofs.JointKinds.{NoNull, Proper, no_null, pair_kind, kinds
 use Rattle.mc_joins.proofs.JointStands.{Respects, pick, may_long, vars_side}
 use Rattle.mc_joins.proofs.Regions.{star_numbered}
 use Rattle.mc_joins.proofs.SideParts.{SoundLaws}
+use Rattle.mc_joins.proofs.Truth.{base_true}
 use Rattle.mc_joins.proofs.SideStands.{SideStands, all_stand, begun_stands}
 
 both_true : (a b : Bool) → (a && b) ≡ true → (a ≡ true) × (b ≡ true)
@@ -79,11 +79,6 @@ own_fits (k ∷ kinds) v kind n a e = at (k.0.0 == n.0) refl (λ f. own_fits kin
 kind_fits : (kinds : Kinds) (v : Valuation) (kind : Kind) (n : NodeId) → v 0 ≡ pos 0 → AllByRecursion (λ (k : NodeId × Kind). InKind k.1 (v k.0.0)) kinds → HasKind kinds kind n → InKind kind (v n.0)
 kind_fits kinds v kind n zero_is a (inl z) = subst (λ (x : ℤ). InKind kind x) (sym (ap (λ (m : NodeId). v m.0) z ∙ zero_is)) (zero_fits kind)
 kind_fits kinds v kind n zero_is a (inr e) = own_fits kinds v kind n a e
-
-all_at : {X : Type 0} (P : X → Type 0) (xs : List X) (i : ℕ) (x : X) → AllByRecursion P xs → slice_get xs i ≡ Some x → P x
-all_at P [] i x a e = absurd (cc e)
-all_at P (y ∷ ys) zero x a e = let same : y ≡ x = cc e in subst P same a.0
-all_at P (y ∷ ys) (suc i) x a e = all_at P ys i x a.1 e
 
 -- ---- ranges
 
@@ -182,17 +177,9 @@ module _ (laws : SoundLaws) (defs : List Def) (vars : List VarInfo) (structs : L
       (subst (λ (z : ℤ). lo ≤ℤ z) (sym is) got.0, subst (λ (z : ℤ). z ≤ℤ hi) (sym is) got.1)
 
   -- what the joint atoms say is true
-  base_stands : (round : ℕ) (thresholds : List ℤ) (t : State) (atoms : AreJointAtoms round thresholds last t) → w 0 ≡ pos 0 → AllByRecursion (λ (k : NodeId × Kind). InKind k.1 (w k.0.0)) t.kinds
-      → IsTrue w (over_nodes t atoms.joint)
-  base_stands round thresholds t atoms zero_is fits f (pure.written i e) = atom_stands round thresholds atoms.join.left_list atoms.join.right_list t.kinds f (atoms.join.sound f (i, e)).1
-  base_stands round thresholds t atoms zero_is fits _ pure.zero = (omega (arith, ints, zero_is), omega (arith, ints, zero_is))
-  base_stands round thresholds t atoms zero_is fits _ (pure.kind {n} {k} i e) = kind_true k n (all_at (λ (x : NodeId × Kind). InKind x.1 (w x.0.0)) t.kinds i (n, k) fits e)
-    where
-      kind_true : (kind : Kind) (n : NodeId) → InKind kind (w n.0) → IsTrueAtom w (kind_atom n kind)
-      kind_true Int n h = h
-      kind_true Ptr n h = h
-  base_stands round thresholds t atoms zero_is fits _ (pure.block i e) = absurd (cc e)
-  base_stands round thresholds t atoms zero_is fits _ (pure.apart i k ne e d) = absurd (cc e)
+  joint_stand : (round : ℕ) (thresholds : List ℤ) (t : State) (atoms : AreJointAtoms round thresholds last t) → AllByRecursion (IsTrueAtom w) atoms.joint
+  joint_stand round thresholds t atoms =
+      at_places defs vars structs left right (IsTrueAtom w) atoms.joint (λ f among. atom_stands round thresholds atoms.join.left_list atoms.join.right_list t.kinds f (atoms.join.sound f among).1)
 
   -- ---- the whole state
 
@@ -238,7 +225,7 @@ module _ (laws : SoundLaws) (defs : List Def) (vars : List VarInfo) (structs : L
         null = null_true;
         kinds = kinds_true;
         atoms = at_places defs vars structs left right (IsTrueAtom w) t.atoms
-            (λ f among. laws.entailed (over_nodes t atoms.joint) w (base_stands round thresholds t atoms null_true kinds_true) f (inl ((atoms.same f).0 (base (pure.written among.0 among.1)))));
+            (λ f among. laws.entailed (over_nodes t atoms.joint) w (base_true w t.kinds atoms.joint null_true kinds_true (joint_stand round thresholds t atoms)) f (inl ((atoms.same f).0 (base (pure.written among.0 among.1)))));
         vars = subst (λ (ns : List (Option NodeId)). VarsMeet w ns values) (sym env_is)
             (vars_side side last.pairs st.v w respects left.env right.env values
             (may_long left.kinds right.kinds _ left.env right.env lm.fits_program.vars_fit rm.fits_program.vars_fit) i.vars_listed

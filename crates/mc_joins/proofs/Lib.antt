@@ -13,8 +13,10 @@ mod NamedStand
 mod JointStands
 mod SideParts
 mod SideStands
+mod Truth
 mod JoinsStand
 mod ExampleStands
+mod JointExamples
 pub mod AlikeLemmas
 pub mod AnewLemmas
 pub mod AtomsLemmas

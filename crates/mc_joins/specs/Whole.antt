@@ -52,8 +52,8 @@ result_of left right j atoms =
 abbrev pub over_nodes : State → List Atom → Pure
 over_nodes t atoms = record { kinds = t.kinds; written = atoms; starts = [] }
 
--- the atoms of a join: they entail what its joint atoms do, which are judged on the two states as they were before any
--- fold, with the nodes that were named; and they are the canonical list of that, with the disequalities inside one class
+-- the atoms of a join, which may be written: they entail what its joint atoms do, judged on the two states as they were before
+-- any fold, with the nodes that were named; and they are the canonical list of that, with the disequalities inside one class
 pub record AreJointAtoms (round : ℕ) (thresholds : List ℤ) (j : Joining) (t : State) : Type 0 where
   pub joint : List Atom
   pub join : IsJoin (pure_of j.left.state) (pure_of j.right.state) j.pairs round thresholds (over_nodes t joint)

@@ -14,7 +14,8 @@ pub mod same;
 
 pub use examples::{
     cells_stand_for_join, counter_joins, empty_joins, folding_joins, naming_joins,
-    null_stands_for_join, refused_joins, segment_joins, stuck_joins,
+    null_stands_for_join, one_class_joins, refused_joins, segment_joins, stuck_joins,
+    tied_counters_join, turned_joins,
 };
 pub use laws::{
     joins_are_determined, joins_are_sound, joins_are_there, joins_make_well, steps_are_determined,

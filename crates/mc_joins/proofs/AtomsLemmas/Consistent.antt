@@ -6,8 +6,6 @@ use Rattle.mc_flow.specs.declared.defs.rules.Def.{Def}
 use Rattle.mc_flow.specs.declared.defs.shapes.StructInfo.{StructInfo}
 use Rattle.mc_pure.specs.Pure.{IsNode}
 use Rattle.mc_pure.specs.Derived.{Follows}
-use Rattle.mc_pure.specs.Classes.{HasNormalForm, NormalSaysAll, EachHasNormalForm}
-use Rattle.mc_pure.specs.Laws.{FollowsFromMore}
 use Rattle.mc_state.specs.Facts.{IsFalse}
 use Rattle.mc_state.specs.Fits.{IsWellMade}
 use Rattle.mc_state.specs.Known.{Test}
@@ -23,41 +21,37 @@ use Rattle.mc_joins.specs.Joinings.{Joining, begun}
 use Rattle.mc_joins.specs.Laws.{KnowsMade}
 use Rattle.mc_joins.specs.Parts.{Basis, Named, spare_node}
 use Rattle.mc_joins.specs.Steps.{after_steps}
+use Rattle.mc_joins.proofs.AtomsLemmas.Joint.{ListLaws, form_of}
 use Rattle.mc_joins.proofs.AtomsLemmas.Naming.{stays_true}
 use Rattle.mc_joins.proofs.Keeping.{steps_kept}
 use Rattle.mc_joins.proofs.Steady.{spare_names, node_made}
 
 -- the laws on which it rests
 pub record KnownLaws : Type 0 where
-  pub says : NormalSaysAll
-  pub grows : FollowsFromMore
-  pub has : EachHasNormalForm
+  pub lists : ListLaws
   pub judged : SpareIsJudged
   pub stays : SpareStaysMade
   pub below : NodesAreBelow
+
+-- well made, and not false
+abbrev pub IsGood : List Def → List VarInfo → List StructInfo → State → Type 0
+IsGood defs vars structs s = IsWellMade defs vars structs s × (IsFalse s → ⊥)
 
 module _ (laws : KnownLaws) (defs : List Def) (vars : List VarInfo) (structs : List StructInfo) (know : State → Test) (tells : KnowsMade defs vars structs know) where
   abbrev basis : Basis
   basis = record { know = know; defs = defs }
 
-  -- well made, and not false
-  abbrev pub Good : State → Type 0
-  Good s = IsWellMade defs vars structs s × (IsFalse s → ⊥)
-
-  form : (s : State) → Good s → HasNormalForm (pure_of s)
-  form s g = elim (laws.has (pure_of s) (made_rises defs vars structs s g.0) (made_fits defs vars structs s g.0)) [
-    | inl wrong ↦ absurd (g.1 wrong)
-    | inr f ↦ f
-  ]
+  abbrev Good : State → Type 0
+  Good s = IsGood defs vars structs s
 
   fresh : (s : State) → IsWellMade defs vars structs s → IsNode s.kinds (next_node s) → ⊥
   fresh s made there = let less = laws.below s (next_node s) made.bounded there in omega arith
 
   name_true : (s : State) (kind : Kind) (t : Term) (after : State) → Good s → NamesSpare t.node t.add kind s (after ∷ []) → IsFalse after → ⊥
   name_true s kind t after g i wrong =
-      let normal = form s g in
+      let normal = form_of laws.lists (pure_of s) (made_rises defs vars structs s g.0) (made_fits defs vars structs s g.0) g.1 in
       let lies : Follows (pure_of s) _ = elim i.lies [ inl d ↦ d | inr false_is ↦ absurd (g.1 false_is) ] in
-      stays_true laws.says laws.grows (pure_of s) normal.nf normal.normal (next_node s) (fresh s g.0) t.node i.there t.add kind lies (subst IsFalse (head i.gives) wrong)
+      stays_true laws.lists.says laws.lists.grows (pure_of s) normal.nf normal.normal (next_node s) (fresh s g.0) t.node i.there t.add kind lies (subst IsFalse (head i.gives) wrong)
     where
       head : {a b : State} → (a ∷ []) ≡ (b ∷ []) → a ≡ b
       head e = cc

@@ -1,5 +1,5 @@
 -- What is known on both sides of a join is finitely many atoms, so there is a list of them.
-use Rattle.std.proofs.Common.{◌≡◌, ◌≢◌, ◌⊎◌, ◌<◌, ◌≤◌, ◌++◌, ℕ, zero, suc, ℤ, pos, negsuc, ◌+ℤ◌, ◌-ℤ◌, ◌≤ℤ◌, ◌<ℤ◌, List, [], ◌∷◌, Option, Some, None, All, Contains, slice_get, length, refl, sym, ◌∙◌, ap, subst, inl, inr, arith}
+use Rattle.std.proofs.Common.{◌≡◌, ◌≢◌, ◌⊎◌, ◌<◌, ◌≤◌, ◌++◌, ℕ, zero, suc, ℤ, pos, negsuc, ◌+ℤ◌, ◌-ℤ◌, ◌≤ℤ◌, ◌<ℤ◌, List, [], ◌∷◌, Bool, true, false, Option, Some, None, All, Contains, slice_get, length, refl, sym, ◌∙◌, ap, subst, inl, inr, arith}
 use Rattle.std.proofs.lemmas.Int.{ints}
 use Rattle.std.proofs.lemmas.Option.{slice_get_within, slice_get-get_or, get_or_from_slice_get}
 use Rattle.std.proofs.lemmas.List.Elements.{All-nil, All-cons, All-head, All-tail}
@@ -15,7 +15,9 @@ use Rattle.mc_pure.specs.Pure.{Pure, Kinds, IsNode, HasKind, AreOfOneKind, IsOff
 use Rattle.mc_pure.specs.Known.{IsFit}
 use Rattle.mc_pure.specs.Derived.{Follows, Derived, IsFalse, HasRange}
 use Rattle.mc_pure.specs.Normal.{low, high}
-use Rattle.mc_pure.specs.Classes.{HasNormalForm, NormalSaysAll}
+use Rattle.mc_pure.specs.Classes.{HasNormalForm, NormalSaysAll, EachHasNormalForm, EachIsDecided}
+use Rattle.mc_pure.specs.Laws.{FollowsFromMore}
+use Rattle.mc_pure.specs.Nodes.{RiseFrom}
 use Rattle.mc_pure.specs.Canonical.{IsCanonical}
 use Rattle.mc_pure_ops.specs.declared.join.equalities.Shift.{Shift}
 use Rattle.mc_pure_ops.specs.Join.Joint.{Pairs, AreJoinable, AreJointKinds, HaveOneKind, IsKindOfPair, IsLate, IsJointRange, IsJoin}
@@ -86,17 +88,19 @@ module _ (kinds : Kinds) where
 -- finitely many atoms are written besides
 written : (P : Atom → Type 0) → Finite P → (old : Pure) → (new : Pure) × Gains P old new
 written P f old =
-    let those = finite_where P (IsWellFormed old.kinds) f (λ g p. well_or old.kinds g) in
-    (record { kinds = old.kinds; written = old.written ++ those.list; starts = old.starts }, record {
-      kinds = refl;
-      starts = refl;
-      from = λ g m. elim (among_either old.written those.list g m) [
-        | inl k ↦ inl k
-        | inr k ↦ (let w = those.sound g k in inr (w.1, w.0))
-      ];
-      kept = λ g m. among_left old.written those.list g m;
-      added = λ g w p. among_right old.written those.list g (those.full g (p, w));
-    })
+    let those = finite_where P (IsWellFormed old.kinds) f (λ g p. well_or old.kinds g) in (
+      record { kinds = old.kinds; written = old.written ++ those.list; starts = old.starts },
+      record {
+        kinds = refl;
+        starts = refl;
+        from = λ g m. elim (among_either old.written those.list g m) [
+          | inl k ↦ inl k
+          | inr k ↦ (let w = those.sound g k in inr (w.1, w.0))
+        ];
+        kept = λ g m. among_left old.written those.list g m;
+        added = λ g w p. among_right old.written those.list g (those.full g (p, w));
+      },
+    )
 
 -- ---- ends of ranges
 
@@ -145,20 +149,20 @@ module _ (thresholds : List ℤ) where
       (finite_where (λ (e : ℤ). Contains thresholds e ⊎ (e ≡ negsuc 2147483647)) (λ e. (e ≤ℤ number) × All (λ t. t ≤ℤ number → t ≤ℤ e) thresholds) (candidates (negsuc 2147483647))
       (λ e w. both_or _ _ (below_or e number) (all_or (λ t. t ≤ℤ number → t ≤ℤ e) (λ t. if_or _ _ (below_or t number) (below_or t e)) thresholds)))
 
-  side_of : (a b : ℤ) → (a ≤ℤ b) ⊎ (b <ℤ a)
-  side_of a b = grind (arith, ints)
+  order : (a b : ℤ) → (a ≤ℤ b) ⊎ (b <ℤ a)
+  order a b = grind (arith, ints)
 
   not_both : (a b : ℤ) → a ≤ℤ b → b <ℤ a → ⊥
   not_both a b x y = omega (arith, ints)
 
   up : (old new : ℤ) → Finite (WidensUp thresholds old new)
-  up old new = elim (side_of new old) [
+  up old new = elim (order new old) [
     | inl kept ↦ finite_one (WidensUp thresholds old new) old (record { kept = λ k. refl; moved = λ less. absurd (not_both new old kept less) }) (λ e w. w.kept kept)
     | inr moved ↦ finite_as (IsNearestAbove thresholds new) (WidensUp thresholds old new) (λ e w. record { kept = λ k. absurd (not_both new old k moved); moved = λ less. w }) (λ e w. w.moved moved) (nearest_above new)
   ]
 
   down : (old new : ℤ) → Finite (WidensDown thresholds old new)
-  down old new = elim (side_of old new) [
+  down old new = elim (order old new) [
     | inl kept ↦ finite_one (WidensDown thresholds old new) old (record { kept = λ k. refl; moved = λ less. absurd (not_both old new kept less) }) (λ e w. w.kept kept)
     | inr moved ↦ finite_as (IsNearestBelow thresholds new) (WidensDown thresholds old new) (λ e w. record { kept = λ k. absurd (not_both old new k moved); moved = λ less. w }) (λ e w. w.moved moved) (nearest_below new)
   ]
@@ -209,6 +213,25 @@ pub record IsSide (p : Pure) : Type 0 where
   pub consistent : IsFalse p → ⊥
   pub form : HasNormalForm p
   pub decided : (f : Atom) → Either (Derived p f)
+
+-- the laws on which lists rest
+pub record ListLaws : Type 0 where
+  pub says : NormalSaysAll
+  pub grows : FollowsFromMore
+  pub has : EachHasNormalForm
+  pub decided : EachIsDecided
+
+pub form_of : ListLaws → (p : Pure) → RiseFrom 1 p.kinds → IsFit p → (IsFalse p → ⊥) → HasNormalForm p
+form_of laws p rise fit consistent = elim (laws.has p rise fit) [ inl wrong ↦ absurd (consistent wrong) | inr form ↦ form ]
+
+or_by : (b : Bool) (P : Type 0) → (b ≡ true → P) → (P → b ≡ true) → Either P
+or_by true P to from = inl (to refl)
+or_by false P to from = inr (λ p. let e = from p in cc)
+
+pub side_of : ListLaws → (p : Pure) → RiseFrom 1 p.kinds → IsFit p → (IsFalse p → ⊥) → IsSide p
+side_of laws p rise fit consistent =
+    let test = laws.decided p rise fit in
+    record { fit = fit; consistent = consistent; form = form_of laws p rise fit consistent; decided = λ f. or_by (test.0 f) (Derived p f) (test.1 f).0 (test.1 f).1 }
 
 module _ (says : NormalSaysAll) (left right : Pure) (L : IsSide left) (R : IsSide right) (pairs : Pairs) (ready : AreJoinable left right pairs) (round : ℕ) (thresholds : List ℤ) where
   -- ranges
@@ -324,13 +347,12 @@ module _ (other : Pure) (O : IsSide other) (ps : Pairs) where
         let t = pair_same ps j Q w.m w.k second w.second in
         let left : a ≡ w.l = left_of w.listed in
         let right : b ≡ w.m = right_of w.listed in
-        let by : w.c ≡ c = by_of w.listed in
-        (
+        let by : w.c ≡ c = by_of w.listed in (
           left ∙ sym s.0,
           (
             right ∙ sym t.0,
             inl (subst (λ (z : ℤ). Follows other (Ne P.1 Q.1 z)) by
-            (subst (λ (z : NodeId). Follows other (Ne z Q.1 w.c)) (sym s.1) (subst (λ (z : NodeId). Follows other (Ne w.r z w.c)) (sym t.1) w.on_other))),
+                (subst (λ (z : NodeId). Follows other (Ne z Q.1 w.c)) (sym s.1) (subst (λ (z : NodeId). Follows other (Ne w.r z w.c)) (sym t.1) w.on_other))),
           ),
         )
       where

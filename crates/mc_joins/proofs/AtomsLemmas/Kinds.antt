@@ -79,11 +79,10 @@ module _ (j : Joining) (none : NoNull j.left.state.kinds) where
       let own = a.0.0.0 in
       let step = kinds_step j none n q ps own (pair_kind j none q own a.0.0.1 a.0.0.2 a.0.1) in
       let same : q ≡ p = some_pair e in
-      let number : n + 0 ≡ n = omega arith in
-      (
+      let number : n + 0 ≡ n = omega arith in (
         own,
         subst (λ (ks : Kinds). kind_of ks (numbered (n + 0)) ≡ Some own) (sym step)
-        (here_kind (numbered n, own) (kinds_from j (suc n) ps) (numbered (n + 0)) (ap numbered (sym number))),
+            (here_kind (numbered n, own) (kinds_from j (suc n) ps) (numbered (n + 0)) (ap numbered (sym number))),
         subst (λ (x : Pair). HasKind lk own x.0) same a.0.0.1,
         subst (λ (x : Pair). HasKind rk own x.1) same a.0.0.2,
       )
@@ -92,11 +91,10 @@ module _ (j : Joining) (none : NoNull j.left.state.kinds) where
       let step = kinds_step j none n q ps own (pair_kind j none q own a.0.0.1 a.0.0.2 a.0.1) in
       let rest = kind_at (suc n) ps a.1 i p e in
       let number : suc n + i ≡ n + suc i = omega arith in
-      let moved : kind_of (kinds_from j (suc n) ps) (numbered (n + suc i)) ≡ Some rest.0 = subst (λ (x : ℕ). kind_of (kinds_from j (suc n) ps) (numbered x) ≡ Some rest.0) number rest.1 in
-      (
+      let moved : kind_of (kinds_from j (suc n) ps) (numbered (n + suc i)) ≡ Some rest.0 = subst (λ (x : ℕ). kind_of (kinds_from j (suc n) ps) (numbered x) ≡ Some rest.0) number rest.1 in (
         rest.0,
         subst (λ (ks : Kinds). kind_of ks (numbered (n + suc i)) ≡ Some rest.0) (sym step)
-        (later_kind (numbered n, own) (kinds_from j (suc n) ps) (numbered (n + suc i)) (λ same. differs n i (ap (λ (x : NodeId). x.0) same)) ∙ moved),
+            (later_kind (numbered n, own) (kinds_from j (suc n) ps) (numbered (n + suc i)) (λ same. differs n i (ap (λ (x : NodeId). x.0) same)) ∙ moved),
         rest.2,
         rest.3,
       )

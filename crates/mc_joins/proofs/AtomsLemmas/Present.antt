@@ -34,9 +34,8 @@ use Rattle.mc_joins.specs.Laws.{KnowsMade, JoinsAreThere}
 use Rattle.mc_joins.specs.Same.Laws.{FalseRenamed}
 use Rattle.mc_joins.specs.Steps.{after_steps}
 use Rattle.mc_joins.specs.Whole.{AreJointAtoms, kinds_from, kinds_of_pairs, result_of}
-use Rattle.mc_joins.proofs.AtomsLemmas.Consistent.{KnownLaws, Good, both_good}
-use Rattle.mc_joins.proofs.AtomsLemmas.Finite.{Either}
-use Rattle.mc_joins.proofs.AtomsLemmas.Joint.{IsSide, joint_list}
+use Rattle.mc_joins.proofs.AtomsLemmas.Consistent.{KnownLaws, IsGood, both_good}
+use Rattle.mc_joins.proofs.AtomsLemmas.Joint.{ListLaws, IsSide, form_of, side_of, joint_list}
 use Rattle.mc_joins.proofs.AtomsLemmas.Kinds.{joinable, joint_kinds}
 use Rattle.mc_joins.proofs.AtomsLemmas.Whole.{canonical_list, whole_list}
 use Rattle.mc_joins.proofs.JointKinds.{no_null}
@@ -123,70 +122,50 @@ module _ (left right : Pure) (pairs : Pairs) (ready : AreJoinable left right pai
 
 -- ---- the atoms
 
-or_by : (b : Bool) (P : Type 0) → (b ≡ true → P) → (P → b ≡ true) → Either P
-or_by true P to from = inl (to refl)
-or_by false P to from = inr (λ p. let e = from p in cc)
+module _ (laws : ListLaws) (renamed : FalseRenamed) (round : ℕ) (thresholds : List ℤ) (left right : State) (last : Joining) (L : IsSide (pure_of last.left.state)) (R : IsSide (pure_of last.right.state))
+    (ready : AreJoinable (pure_of last.left.state) (pure_of last.right.state) last.pairs)
+    (are : AreJointKinds (pure_of last.left.state) (pure_of last.right.state) last.pairs (kinds_of_pairs last last.pairs)) where
+  abbrev l : Pure
+  l = pure_of last.left.state
 
-module _ (laws : KnownLaws) (decided : EachIsDecided) (new_kinds : NewNodesHaveKinds) (told : KindIsTold) (renamed : FalseRenamed)
-    (defs : List Def) (vars : List VarInfo) (structs : List StructInfo) (know : State → Test) (tells : KnowsMade defs vars structs know) where
-  side_form : (s : State) → Good laws defs vars structs know tells s → HasNormalForm (pure_of s)
-  side_form s g = elim (laws.has (pure_of s) (made_rises defs vars structs s g.0) (made_fits defs vars structs s g.0)) [
-    | inl wrong ↦ absurd (g.1 wrong)
-    | inr f ↦ f
-  ]
+  abbrev r : Pure
+  r = pure_of last.right.state
 
-  side : (s : State) → Good laws defs vars structs know tells s → IsSide (pure_of s)
-  side s g =
-      let test = decided (pure_of s) (made_rises defs vars structs s g.0) (made_fits defs vars structs s g.0) in
-      record {
-        fit = made_fits defs vars structs s g.0;
-        consistent = g.1;
-        form = side_form s g;
-        decided = λ f. or_by (test.0 f) (Derived (pure_of s) f) (test.1 f).0 (test.1 f).1;
-      }
+  abbrev kinds : Kinds
+  kinds = kinds_of_pairs last last.pairs
 
-  module _ (round : ℕ) (thresholds : List ℤ) (left right : State) (last : Joining) (lg : Good laws defs vars structs know tells last.left.state) (rg : Good laws defs vars structs know tells last.right.state)
-      (ready : AreJoinable (pure_of last.left.state) (pure_of last.right.state) last.pairs)
-      (are : AreJointKinds (pure_of last.left.state) (pure_of last.right.state) last.pairs (kinds_of_pairs last last.pairs)) where
-    abbrev l : Pure
-    l = pure_of last.left.state
-
-    abbrev r : Pure
-    r = pure_of last.right.state
-
-    abbrev kinds : Kinds
-    kinds = kinds_of_pairs last last.pairs
-
-    with_list : (joint : List Atom) → IsJoin l r last.pairs round thresholds (record { kinds = kinds; written = joint; starts = [] })
-        → (atoms : List Atom) × AreJointAtoms round thresholds last (result_of left right last atoms)
-    with_list joint join =
-        let own : Pure = record { kinds = kinds; written = joint; starts = [] } in
-        let fit = joint_fits l r last.pairs ready round thresholds kinds joint join in
-        let consistent = joint_true l r last.pairs ready round thresholds kinds joint join renamed lg.1 in
-        let form : HasNormalForm own = elim (laws.has own are.rise fit) [ inl wrong ↦ absurd (consistent wrong) | inr f ↦ f ] in
-        let w = whole_list laws.says laws.grows own fit consistent form refl in
-        (w.0, record {
+  with_list : (joint : List Atom) → IsJoin l r last.pairs round thresholds (record { kinds = kinds; written = joint; starts = [] })
+      → (atoms : List Atom) × AreJointAtoms round thresholds last (result_of left right last atoms)
+  with_list joint join =
+      let both : Pure = record { kinds = kinds; written = joint; starts = [] } in
+      let fit = joint_fits l r last.pairs ready round thresholds kinds joint join in
+      let consistent = joint_true l r last.pairs ready round thresholds kinds joint join renamed L.consistent in
+      let w = whole_list laws.says laws.grows both fit consistent (form_of laws both are.rise fit consistent) refl in (
+        w.0,
+        record {
           joint = joint;
           join = join;
           fit = record { written = λ i f e. w.1.well f (i, e); starts = λ i a e. absurd (cc e) };
           same = w.1.same;
           listed = w.1.listed;
-        })
+        },
+      )
 
-    pub atoms_there : (atoms : List Atom) × AreJointAtoms round thresholds last (result_of left right last atoms)
-    atoms_there =
-        let L = side last.left.state lg in
-        let R = side last.right.state rg in
-        let ll = canonical_list laws.says laws.grows l L.fit L.consistent L.form in
-        let rl = canonical_list laws.says laws.grows r R.fit R.consistent R.form in
-        let list = joint_list laws.says l r L R last.pairs ready round thresholds kinds are ll.0 rl.0 ll.1 rl.1 in
-        with_list list.0 list.1
+  pub atoms_there : (atoms : List Atom) × AreJointAtoms round thresholds last (result_of left right last atoms)
+  atoms_there =
+      let ll = canonical_list laws.says laws.grows l L.fit L.consistent L.form in
+      let rl = canonical_list laws.says laws.grows r R.fit R.consistent R.form in
+      let list = joint_list laws.says l r L R last.pairs ready round thresholds kinds are ll.0 rl.0 ll.1 rl.1 in
+      with_list list.0 list.1
 
-pub joins_are_there : KnownLaws → EachIsDecided → NewNodesHaveKinds → KindIsTold → FalseRenamed → JoinsAreThere
-joins_are_there laws decided new_kinds told renamed defs vars structs know round thresholds left right steps last tells lm rm lt rt reached done =
+pub joins_are_there : KnownLaws → NewNodesHaveKinds → KindIsTold → FalseRenamed → JoinsAreThere
+joins_are_there laws new_kinds told renamed defs vars structs know round thresholds left right steps last tells lm rm lt rt reached done =
     let i = steps_inv defs vars structs left right laws.judged laws.stays new_kinds told know tells steps (begun left right) last (begun_inv defs vars structs left right lm rm) reached in
     let good = both_good laws defs vars structs know tells left right steps last (lm, lt) (rm, rt) reached in
     let none = no_null 1 last.left.state.kinds last.left.state.next (omega arith) i.left_made.bounded.kinds in
     let ready = joinable last none i.rest i.front i.proper in
     let are = subst (λ (ks : Kinds). AreJointKinds (pure_of last.left.state) (pure_of last.right.state) last.pairs ks) (sym (ap (kinds_of_pairs last) i.front)) (joint_kinds last none i.rest i.front i.proper) in
-    atoms_there laws decided new_kinds told renamed defs vars structs know tells round thresholds left right last good.0 good.1 ready are
+    atoms_there laws.lists renamed round thresholds left right last (side last.left.state good.0) (side last.right.state good.1) ready are
+  where
+    side : (s : State) → IsGood defs vars structs s → IsSide (pure_of s)
+    side s g = side_of laws.lists (pure_of s) (made_rises defs vars structs s g.0) (made_fits defs vars structs s g.0) g.1

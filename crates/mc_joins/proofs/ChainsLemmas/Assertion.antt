@@ -33,29 +33,8 @@ use Rattle.mc_kernel.specs.Instances.{JumpsTo}
 use Rattle.mc_joins.specs.Parts.{Basis}
 use Rattle.mc_joins.specs.Chains.Chains.{over, ReadsPass, HasAlarms, IsUnfinished}
 use Rattle.mc_joins.specs.Chains.Examples.{assert_flow, assert_document, short_document, first_pass, second_pass}
-use Rattle.mc_kernel.proofs.Plain.{contains_one, known_of}
-
--- ---- what is true by some numbers is not false
-
-each_at : {X : Type 0} (P : X → Type 0) (xs : List X) (place : ℕ) (x : X) → slice_get xs place ≡ Some x → AllByRecursion P xs → P x
-each_at P [] place x e a = absurd (cc e)
-each_at P (y ∷ ys) zero x e a = let same : y ≡ x = cc e in subst P same a.0
-each_at P (y ∷ ys) (suc place) x e a = each_at P ys place x e a.1
-
-kind_true : (v : Valuation) (n : NodeId) (kind : Kind) → InKind kind (v n.0) → IsTrueAtom v (kind_atom n kind)
-kind_true v n Int h = h
-kind_true v n Ptr h = h
-
-module _ (v : Valuation) (kinds : Kinds) (atoms : List Atom) (null : v 0 ≡ pos 0) (kinds_are : AllByRecursion (λ (k : NodeId × Kind). InKind k.1 (v k.0.0)) kinds) (atoms_are : AllByRecursion (IsTrueAtom v) atoms) where
-  base_true : IsTrue v (known_of kinds atoms)
-  base_true f (known.written place e) = each_at (IsTrueAtom v) atoms place f e atoms_are
-  base_true _ known.zero = (omega (arith, ints), omega (arith, ints))
-  base_true _ (known.kind {n} {k} place e) = kind_true v n k (each_at (λ (j : NodeId × Kind). InKind j.1 (v j.0.0)) kinds place (n, k) e kinds_are)
-  base_true _ (known.block place e) = absurd (cc e)
-  base_true _ (known.apart i j ne x y) = absurd (cc x)
-
-  not_false : TrueIsNotFalse → IsFalse (known_of kinds atoms) → ⊥
-  not_false law wrong = law (known_of kinds atoms) v base_true wrong
+use Rattle.mc_kernel.proofs.Plain.{contains_one}
+use Rattle.mc_joins.proofs.Truth.{not_false}
 
 contains_here : {X : Type 0} (x : X) (xs : List X) → Contains (x ∷ xs) x
 contains_here x xs = (0, omega arith, refl)
