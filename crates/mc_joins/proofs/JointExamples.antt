@@ -1,6 +1,6 @@
 -- Small joins with their atoms.
-use Rattle.std.proofs.Common.{◌≡◌, ◌≢◌, ◌⊎◌, ◌++◌, ℕ, zero, suc, ℤ, pos, negsuc, ◌+ℤ◌, neg_ℤ, ◌≤ℤ◌, ◌<ℤ◌, ◌≤◌, ◌<◌, List, [], ◌∷◌, Some, None, slice_get, refl, sym, ◌∙◌, ap, subst, inl, inr, arith}
-use Rattle.std.specs.Prelude.{slice_index_or, Contains}
+use Rattle.std.proofs.Common.{◌≡◌, ◌≢◌, ◌⊎◌, ◌++◌, ℕ, zero, suc, ℤ, pos, negsuc, ◌+ℤ◌, ◌≤ℤ◌, ◌<ℤ◌, ◌≤◌, ◌<◌, List, [], ◌∷◌, Some, slice_get, refl, sym, ◌∙◌, ap, subst, inl, inr, arith}
+use Rattle.std.specs.Prelude.{slice_index_or}
 use Rattle.std.specs.List.{AllByRecursion}
 use Rattle.std.proofs.lemmas.Int.{ints, clamps}
 use Rattle.mc_base.specs.declared.ids.NodeId.{NodeId}
@@ -11,19 +11,15 @@ use Rattle.mc_base.specs.declared.plain.Atom.TheVariants.{Eq, Ne, In}
 use Rattle.mc_base.specs.Atoms.{IsTrueAtom}
 use Rattle.mc_base.specs.Kinds.{InKind}
 use Rattle.mc_base.specs.Nodes.{Valuation, null}
-use Rattle.mc_base.specs.Ranges.Thresholds.{WidensUp, WidensDown}
-use Rattle.mc_pure.specs.Classes.{NormalSaysAll, EachHasNormalForm, EachIsDecided}
-use Rattle.mc_pure.specs.Derived as derived
-use Rattle.mc_pure.specs.Derived.{Follows, HasRange, base, turned, shifted, chained, differs, differs_along}
+use Rattle.mc_pure.specs.Derived.{Follows, HasRange, base, turned, shifted, differs, differs_along}
 use Rattle.mc_pure.specs.Examples.{node}
-use Rattle.mc_pure.specs.Known.{IsFit}
 use Rattle.mc_pure.specs.Laws as pure
 use Rattle.mc_pure.specs.Laws.{FollowsFromMore, TrueIsNotFalse}
 use Rattle.mc_pure.specs.Pure as known
 use Rattle.mc_pure.specs.Canonical.{IsLeast, IsRangeAtom, IsClassAtom, IsCanonical, plainly}
 use Rattle.mc_pure.specs.Pure.{Pure, Kinds, IsNode, IsWellFormed, kind_of, low_of, high_of}
 use Rattle.mc_pure.specs.Rows.{nodes_of}
-use Rattle.mc_pure_ops.specs.Join.Joint.{Pairs, AreJoinable, AreJointKinds, IsJoint, IsJointRange, IsLate, sides}
+use Rattle.mc_pure_ops.specs.Join.Joint.{Pairs, IsJoint, IsJointRange, IsLate, sides}
 use Rattle.mc_pure_ops.specs.Canon.Order.{Among}
 use Rattle.mc_pure_ops.proofs.CanonLemmas.Listing.{contains_from, contains_to, either_in, right_in}
 use Rattle.mc_pure_ops.proofs.CanonLemmas.Nodes.{in_as, ne_as, node_listed}

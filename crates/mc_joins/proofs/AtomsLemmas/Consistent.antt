@@ -1,5 +1,5 @@
 -- Where two states are not false, nor are those of their join.
-use Rattle.std.proofs.Common.{◌≡◌, ◌<◌, ℕ, List, [], ◌∷◌, Some, ap, sym, subst, inl, inr, arith}
+use Rattle.std.proofs.Common.{◌≡◌, List, [], ◌∷◌, Some, subst, inl, inr, arith}
 use Rattle.mc_base.specs.declared.plain.Kind.{Kind}
 use Rattle.mc_base.specs.declared.plain.VarInfo.{VarInfo}
 use Rattle.mc_flow.specs.declared.defs.rules.Def.{Def}
@@ -24,7 +24,7 @@ use Rattle.mc_joins.specs.Steps.{after_steps}
 use Rattle.mc_joins.proofs.AtomsLemmas.Joint.{ListLaws, form_of}
 use Rattle.mc_joins.proofs.AtomsLemmas.Naming.{stays_true}
 use Rattle.mc_joins.proofs.Keeping.{steps_kept}
-use Rattle.mc_joins.proofs.Steady.{spare_names, node_made}
+use Rattle.mc_joins.proofs.Steady.{spare_names}
 
 -- the laws on which it rests
 pub record KnownLaws : Type 0 where

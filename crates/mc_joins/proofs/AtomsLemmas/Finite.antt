@@ -1,5 +1,5 @@
 -- What a list has: things of which there are finitely many.
-use Rattle.std.proofs.Common.{◌≡◌, ◌⊎◌, ◌<◌, ◌≤◌, ◌+◌, ℕ, zero, suc, List, [], ◌∷◌, ◌++◌, Some, None, slice_get, length, refl, sym, ◌∙◌, subst, inl, inr, arith}
+use Rattle.std.proofs.Common.{◌≡◌, ◌⊎◌, ◌<◌, ℕ, zero, suc, List, [], ◌∷◌, ◌++◌, Some, slice_get, refl, sym, subst, inl, inr, arith}
 
 -- the thing stands at a place of the list
 abbrev pub Among : {X : Type 0} → List X → X → Type 0

@@ -1,10 +1,9 @@
 -- The atoms of a canonical list may be written.
-use Rattle.std.proofs.Common.{◌≡◌, ◌⊎◌, ℕ, ℤ, pos, negsuc, ◌+ℤ◌, ◌≤ℤ◌, ◌<ℤ◌, List, [], ◌∷◌, Bool, None, Some, slice_get, refl, subst, inl, inr, arith}
+use Rattle.std.proofs.Common.{◌≡◌, ◌⊎◌, ℕ, ℤ, ◌+ℤ◌, ◌<ℤ◌, List, [], Bool, None, Some, slice_get, subst, inl, inr, arith}
 use Rattle.std.proofs.lemmas.Int.{ints}
 use Rattle.mc_base.specs.declared.ids.NodeId.{NodeId}
 use Rattle.mc_base.specs.declared.plain.Atom.{Atom}
 use Rattle.mc_base.specs.declared.plain.Atom.TheVariants.{Eq, Ne, In}
-use Rattle.mc_base.specs.declared.plain.Kind.TheVariants.{Int}
 use Rattle.mc_base.specs.Nodes.{null}
 use Rattle.mc_pure.specs.Pure as begin
 use Rattle.mc_pure.specs.Pure.{Pure, Base, IsNode, HasKind, AreOfOneKind, IsOffset, IsWellFormed, written, kind, block, apart}

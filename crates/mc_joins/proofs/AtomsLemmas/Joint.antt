@@ -1,5 +1,5 @@
 -- What is known on both sides of a join is finitely many atoms, so there is a list of them.
-use Rattle.std.proofs.Common.{◌≡◌, ◌≢◌, ◌⊎◌, ◌<◌, ◌≤◌, ◌++◌, ℕ, zero, suc, ℤ, pos, negsuc, ◌+ℤ◌, ◌-ℤ◌, ◌≤ℤ◌, ◌<ℤ◌, List, [], ◌∷◌, Bool, true, false, Option, Some, None, All, Contains, slice_get, length, refl, sym, ◌∙◌, ap, subst, inl, inr, arith}
+use Rattle.std.proofs.Common.{◌≡◌, ◌⊎◌, ◌<◌, ◌≤◌, ◌++◌, ℕ, ℤ, pos, negsuc, ◌-ℤ◌, ◌≤ℤ◌, ◌<ℤ◌, List, [], ◌∷◌, Bool, true, false, Option, Some, None, All, Contains, slice_get, length, refl, sym, ◌∙◌, ap, subst, inl, inr, arith}
 use Rattle.std.proofs.lemmas.Int.{ints}
 use Rattle.std.proofs.lemmas.Option.{slice_get_within, slice_get-get_or, get_or_from_slice_get}
 use Rattle.std.proofs.lemmas.List.Elements.{All-nil, All-cons, All-head, All-tail}
@@ -30,7 +30,7 @@ use Rattle.mc_pure_ops.proofs.JoinLemmas.Follow.{range_once, offset_once}
 use Rattle.mc_pure_ops.proofs.JoinLemmas.Pairing.{Pair, pair_same, by_left, by_right, no_kind, none_left, none_right, one_equality, one_difference, one_listed}
 use Rattle.mc_pure_ops.proofs.JoinLemmas.Whole.{joined}
 use Rattle.mc_joins.proofs.AtomsLemmas.Finite.{Among, Either, Finite, finite_none, finite_one, finite_as, finite_or, finite_list, finite_with, finite_where, finite_below, finite_at, among_left, among_right, among_either}
-use Rattle.mc_joins.proofs.AtomsLemmas.Listing.{at_most, less_or, same_or, one_or, both_or, as_or, item_or, least_range}
+use Rattle.mc_joins.proofs.AtomsLemmas.Listing.{at_most, one_or, both_or, as_or, item_or, least_range}
 
 -- ---- atoms that may be written
 

@@ -1,5 +1,5 @@
 -- The nodes of what a join gives, with their kinds, are its pairs.
-use Rattle.std.proofs.Common.{◌≡◌, ◌≢◌, ◌⊎◌, ◌↔◌, ◌<◌, ◌≤◌, ◌+◌, ◌-◌, ℕ, zero, suc, List, [], ◌∷◌, Some, slice_get, refl, sym, ◌∙◌, ap, subst, inl, inr, arith}
+use Rattle.std.proofs.Common.{◌≡◌, ◌≢◌, ◌+◌, ℕ, zero, suc, [], ◌∷◌, Some, slice_get, refl, sym, ◌∙◌, ap, subst, inl, inr, arith}
 use Rattle.std.specs.List.{AllByRecursion}
 use Rattle.mc_base.specs.declared.ids.NodeId.{NodeId}
 use Rattle.mc_base.specs.declared.plain.Kind.{Kind}
@@ -9,7 +9,7 @@ use Rattle.mc_pure.specs.Pure.{Kinds, Pure, HasKind, kind_of}
 use Rattle.mc_pure.specs.Nodes.{RiseFrom}
 use Rattle.mc_pure_ops.specs.Join.Joint.{Pairs, StandsFor, HaveOneKind, AreJoinable, IsKindOfPair, AreJointKinds}
 use Rattle.mc_pure_ops.proofs.CanonLemmas.Nodes.{decide, here_kind, later_kind}
-use Rattle.mc_state.specs.State.{State, pure_of}
+use Rattle.mc_state.specs.State.{pure_of}
 use Rattle.mc_joins.specs.Joinings.{Joining, Pair}
 use Rattle.mc_joins.specs.Whole.{kinds_from}
 use Rattle.mc_joins.proofs.JointKinds.{Proper, NoNull, pair_kind, kinds_step}

@@ -1,5 +1,5 @@
 -- A node that is named is the only thing that is new: what is known stays without contradiction.
-use Rattle.std.proofs.Common.{◌≡◌, ◌≢◌, ◌⊎◌, ◌++◌, ℕ, ℤ, pos, ◌+ℤ◌, ◌-ℤ◌, neg_ℤ, ◌≤ℤ◌, List, [], ◌∷◌, Some, slice_get, refl, sym, ◌∙◌, ap, subst, inl, inr, arith}
+use Rattle.std.proofs.Common.{◌≡◌, ◌≢◌, ◌⊎◌, ◌++◌, ℤ, ◌+ℤ◌, ◌-ℤ◌, ◌≤ℤ◌, [], ◌∷◌, refl, sym, ◌∙◌, ap, subst, inl, inr, arith}
 use Rattle.std.proofs.lemmas.Int.{ints}
 use Rattle.mc_base.specs.declared.ids.NodeId.{NodeId}
 use Rattle.mc_base.specs.declared.plain.Atom.{Atom}
@@ -11,13 +11,13 @@ use Rattle.mc_pure.specs.declared.rows.Row.{Row}
 use Rattle.mc_pure.specs.Pure as pure
 use Rattle.mc_pure.specs.Pure.{Pure, Kinds, Base, IsNode, HasKind, kind_of, kind_atom, low_of, high_of}
 use Rattle.mc_pure.specs.Derived.{Follows, IsFalse, base, chained, shifted}
-use Rattle.mc_pure.specs.Normal.{low, high, Holds, SoundAt, IsNormal}
+use Rattle.mc_pure.specs.Normal.{low, high, Holds, IsNormal}
 use Rattle.mc_pure.specs.Classes.{NormalSaysAll}
 use Rattle.mc_pure.specs.Laws.{FollowsFromMore}
 use Rattle.mc_pure.proofs.Completeness.{not_false}
 use Rattle.mc_pure_ops.proofs.CanonLemmas.Nodes.{Entry, decide, here_kind, later_kind, in_as}
 use Rattle.mc_pure_ops.proofs.JoinLemmas.Follow.{eq_as}
-use Rattle.mc_joins.proofs.AtomsLemmas.Finite.{Among, among_left, among_right, among_either, among_cases, among_none}
+use Rattle.mc_joins.proofs.AtomsLemmas.Finite.{among_left, among_right, among_either, among_cases, among_none}
 
 -- the kind of a node among more
 more_kind : (kinds : Kinds) (x : Entry) (kind : Kind) (a : NodeId) → HasKind (kinds ++ x ∷ []) kind a → (a ≡ x.0) ⊎ HasKind kinds kind a

@@ -1,39 +1,30 @@
 -- A whole join has atoms.
-use Rattle.std.proofs.Common.{◌≡◌, ◌≢◌, ◌⊎◌, ◌<◌, ◌≤◌, ℕ, zero, suc, ℤ, pos, ◌≤ℤ◌, List, [], ◌∷◌, Bool, true, false, Some, get_or, slice_get, refl, sym, ◌∙◌, ap, subst, inl, inr, arith}
+use Rattle.std.proofs.Common.{◌≡◌, ◌≤◌, ℕ, zero, suc, ℤ, pos, List, [], ◌∷◌, Some, get_or, slice_get, refl, sym, ◌∙◌, ap, subst, inl, inr, arith}
 use Rattle.std.proofs.lemmas.Int.{ints, clamps}
 use Rattle.mc_base.specs.declared.ids.NodeId.{NodeId}
 use Rattle.mc_base.specs.declared.plain.Atom.{Atom}
 use Rattle.mc_base.specs.declared.plain.Atom.TheVariants.{Eq, Ne, In}
 use Rattle.mc_base.specs.declared.plain.Kind.{Kind}
-use Rattle.mc_base.specs.declared.plain.VarInfo.{VarInfo}
 use Rattle.mc_base.specs.Atoms.{moved_atom}
 use Rattle.mc_base.specs.Nodes.{moved, null}
-use Rattle.mc_flow.specs.declared.defs.rules.Def.{Def}
-use Rattle.mc_flow.specs.declared.defs.shapes.StructInfo.{StructInfo}
 use Rattle.mc_pure.specs.Pure as pure
 use Rattle.mc_pure.specs.Pure.{Pure, Kinds, Base, IsNode, HasKind, kind_of, kind_atom}
 use Rattle.mc_pure.specs.Nodes.{RiseFrom}
 use Rattle.mc_pure.specs.Known.{IsFit}
 use Rattle.mc_pure.specs.Derived as pure_facts
 use Rattle.mc_pure.specs.Derived.{Follows, Derived, base, widened}
-use Rattle.mc_pure.specs.Classes.{HasNormalForm, EachIsDecided}
 use Rattle.mc_pure_ops.specs.Join.Joint.{Pairs, StandsFor, AreJoinable, AreJointKinds, IsKindOfPair, IsJoin, IsOfBoth, sides}
 use Rattle.mc_pure_ops.proofs.CanonLemmas.Nodes.{Entry, here_kind, later_kind}
 use Rattle.mc_pure_ops.proofs.JoinLemmas.Pairing.{kind_once}
-use Rattle.mc_state.specs.Facts.{IsFalse}
-use Rattle.mc_state.specs.Fits.{IsWellMade}
-use Rattle.mc_state.specs.Known.{Test}
 use Rattle.mc_state.specs.Laws.{NewNodesHaveKinds}
 use Rattle.mc_state.specs.State.{State, pure_of}
 use Rattle.mc_state.specs.Told.{KindIsTold}
-use Rattle.mc_state.specs.declared.line.JoinStep.{JoinStep}
 use Rattle.mc_rules_logic.proofs.FoldLemmas.MadeNodes.{in_kind}
 use Rattle.mc_kernel.proofs.OracleLemmas.Known.{made_rises, made_fits}
-use Rattle.mc_joins.specs.Joinings.{Joining, Pair, begun, next_pair}
-use Rattle.mc_joins.specs.Laws.{KnowsMade, JoinsAreThere}
+use Rattle.mc_joins.specs.Joinings.{Joining, Pair, begun}
+use Rattle.mc_joins.specs.Laws.{JoinsAreThere}
 use Rattle.mc_joins.specs.Same.Laws.{FalseRenamed}
-use Rattle.mc_joins.specs.Steps.{after_steps}
-use Rattle.mc_joins.specs.Whole.{AreJointAtoms, kinds_from, kinds_of_pairs, result_of}
+use Rattle.mc_joins.specs.Whole.{AreJointAtoms, kinds_of_pairs, result_of}
 use Rattle.mc_joins.proofs.AtomsLemmas.Consistent.{KnownLaws, IsGood, both_good}
 use Rattle.mc_joins.proofs.AtomsLemmas.Joint.{ListLaws, IsSide, form_of, side_of, joint_list}
 use Rattle.mc_joins.proofs.AtomsLemmas.Kinds.{joinable, joint_kinds}

@@ -1,5 +1,5 @@
 -- Finitely many atoms, in order.
-use Rattle.std.proofs.Common.{◌≡◌, List, [], ◌∷◌, Some, refl, sym, subst}
+use Rattle.std.proofs.Common.{◌≡◌, List, [], Some, refl, sym, subst}
 use Rattle.mc_base.specs.declared.plain.Atom.{Atom}
 use Rattle.mc_pure_ops.specs.Canon.Order.{Added}
 use Rattle.mc_rules_logic.proofs.ListedLemmas.Adding.{OfSome, at_most_addable, listed_addable, addable_as}

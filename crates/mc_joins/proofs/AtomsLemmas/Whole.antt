@@ -1,5 +1,5 @@
 -- What is known, where it is not false, has a canonical list with the disequalities inside one class, which says all of it.
-use Rattle.std.proofs.Common.{◌≡◌, ◌⊎◌, ◌↔◌, ◌<◌, ℕ, ℤ, pos, ◌+ℤ◌, ◌-ℤ◌, neg_ℤ, ◌<ℤ◌, List, [], ◌∷◌, ◌++◌, Bool, true, false, None, Some, slice_get, refl, sym, ◌∙◌, subst, inl, inr, arith}
+use Rattle.std.proofs.Common.{◌≡◌, ◌⊎◌, ◌↔◌, ◌<◌, ℕ, ℤ, pos, ◌+ℤ◌, ◌-ℤ◌, neg_ℤ, ◌<ℤ◌, List, [], ◌++◌, Bool, true, false, None, Some, slice_get, refl, sym, subst, inl, inr, arith}
 use Rattle.std.proofs.lemmas.Int.{ints}
 use Rattle.mc_base.specs.declared.ids.NodeId.{NodeId}
 use Rattle.mc_base.specs.declared.plain.Atom.{Atom}
@@ -18,10 +18,10 @@ use Rattle.mc_pure.specs.Classes.{HasNormalForm, NormalSaysAll}
 use Rattle.mc_pure_ops.specs.declared.canon.gaps.Gap.{Gap}
 use Rattle.mc_pure_ops.specs.Canon.Order.{Among, IsBefore, Added}
 use Rattle.mc_pure_ops.specs.Canon.Left.{IsLeft, IsLeastLeft, LeavesOut, IsRangeLeft, IsClassLeft}
-use Rattle.mc_pure_ops.specs.Canon.Gaps.{ArePair, IsPlain, IsTurned, DifferenceLeft, gap_atom, turned_gap}
+use Rattle.mc_pure_ops.specs.Canon.Gaps.{ArePair, IsTurned, DifferenceLeft, gap_atom, turned_gap}
 use Rattle.mc_pure_ops.proofs.CanonLemmas.Lists.{same_node, added_as}
 use Rattle.mc_pure_ops.proofs.CanonLemmas.Nodes.{ne_as, place_of_kind, least_whole, whole_least}
-use Rattle.mc_pure_ops.proofs.CanonLemmas.Plain.{range_of, plain, IsPlainly}
+use Rattle.mc_pure_ops.proofs.CanonLemmas.Plain.{range_of, plain}
 use Rattle.mc_pure_ops.proofs.CanonLemmas.Exact.{IsDifferenceLeft, difference_true, difference_made}
 use Rattle.mc_pure_ops.proofs.CanonLemmas.Within.{moved_ne, range_in, class_in, plain_in}
 use Rattle.mc_pure_ops.proofs.CanonLemmas.Listing.{gained, listed, left_in, right_in, either_in, range_step, class_step, difference_step}

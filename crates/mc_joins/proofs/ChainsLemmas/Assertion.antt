@@ -1,16 +1,10 @@
 -- The chain of a loop and an assertion after it.
-use Rattle.std.proofs.Common.{◌≡◌, ◌≢◌, ℕ, zero, suc, List, [], ◌∷◌, Some, None, true, slice_get, refl, ap, subst, arith, inl, inr, ℤ, pos}
+use Rattle.std.proofs.Common.{◌≡◌, ◌≢◌, ℕ, zero, suc, List, [], ◌∷◌, Some, None, true, refl, ap, subst, arith, inl, inr, ℤ, pos}
 use Rattle.std.specs.Prelude.{Contains}
-use Rattle.std.specs.List.{AllByRecursion}
 use Rattle.std.proofs.lemmas.Int.{ints}
-use Rattle.mc_base.specs.declared.ids.NodeId.{NodeId}
 use Rattle.mc_base.specs.declared.ids.PointId.{PointId}
-use Rattle.mc_base.specs.declared.plain.Kind.{Kind}
-use Rattle.mc_base.specs.declared.plain.Kind.TheVariants.{Int, Ptr}
-use Rattle.mc_base.specs.declared.plain.Atom.{Atom}
+use Rattle.mc_base.specs.declared.plain.Kind.TheVariants.{Int}
 use Rattle.mc_base.specs.declared.plain.Atom.TheVariants.{Eq, Ne}
-use Rattle.mc_base.specs.Atoms.{IsTrueAtom}
-use Rattle.mc_base.specs.Kinds.{InKind}
 use Rattle.mc_base.specs.Nodes.{Valuation, null}
 use Rattle.mc_flow.specs.declared.instr.Instr.TheVariants as instr
 use Rattle.mc_flow.specs.Valid.{IsSkip}
@@ -19,7 +13,7 @@ use Rattle.mc_state.specs.Known.{Test}
 use Rattle.mc_pure.specs.Derived as derived
 use Rattle.mc_pure.specs.Derived.{IsFalse}
 use Rattle.mc_pure.specs.Examples.{node}
-use Rattle.mc_pure.specs.Laws.{IsTrue, TrueIsNotFalse}
+use Rattle.mc_pure.specs.Laws.{TrueIsNotFalse}
 use Rattle.mc_pure.specs.Pure as known
 use Rattle.mc_pure.specs.Pure.{Kinds, kind_atom}
 use Rattle.mc_state.specs.Facts as facts
