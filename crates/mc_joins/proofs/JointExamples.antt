@@ -1,5 +1,5 @@
 -- Small joins with their atoms.
-use Rattle.std.proofs.Common.{◌≡◌, ◌≢◌, ◌⊎◌, ◌++◌, ℕ, zero, suc, ℤ, pos, negsuc, ◌+ℤ◌, ◌≤ℤ◌, ◌<ℤ◌, ◌≤◌, ◌<◌, List, [], ◌∷◌, Some, slice_get, refl, sym, ◌∙◌, ap, subst, inl, inr, arith}
+use Rattle.std.proofs.Common.{◌≡◌, ◌≢◌, ◌⊎◌, ◌++◌, ℕ, zero, suc, ℤ, pos, negsuc, ◌+ℤ◌, ◌≤ℤ◌, ◌<ℤ◌, ◌≤◌, ◌<◌, List, [], ◌∷◌, Some, slice_get, refl, sym, ◌∙◌, ap, subst, inl, inr, arith, None, get_or}
 use Rattle.std.specs.Prelude.{slice_index_or}
 use Rattle.std.specs.List.{AllByRecursion}
 use Rattle.std.proofs.lemmas.Int.{ints, clamps}
@@ -11,22 +11,22 @@ use Rattle.mc_base.specs.declared.plain.Atom.TheVariants.{Eq, Ne, In}
 use Rattle.mc_base.specs.Atoms.{IsTrueAtom}
 use Rattle.mc_base.specs.Kinds.{InKind}
 use Rattle.mc_base.specs.Nodes.{Valuation, null}
-use Rattle.mc_pure.specs.Derived.{Follows, HasRange, base, turned, shifted, differs, differs_along}
+use Rattle.mc_pure.specs.Derived.{Follows, HasRange, base, turned, shifted, differs, differs_along, disjoint}
 use Rattle.mc_pure.specs.Examples.{node}
 use Rattle.mc_pure.specs.Laws as pure
 use Rattle.mc_pure.specs.Laws.{FollowsFromMore, TrueIsNotFalse}
 use Rattle.mc_pure.specs.Pure as known
-use Rattle.mc_pure.specs.Canonical.{IsLeast, IsRangeAtom, IsClassAtom, IsCanonical, plainly}
-use Rattle.mc_pure.specs.Pure.{Pure, Kinds, IsNode, IsWellFormed, kind_of, low_of, high_of}
+use Rattle.mc_pure.specs.Canonical.{IsLeast, IsRangeAtom, IsClassAtom, IsCanonical, plainly, IsDifference, IsListOf}
+use Rattle.mc_pure.specs.Pure.{Pure, Kinds, IsNode, IsWellFormed, kind_of, low_of, high_of, Base, kind_atom}
 use Rattle.mc_pure.specs.Rows.{nodes_of}
-use Rattle.mc_pure_ops.specs.Join.Joint.{Pairs, IsJoint, IsJointRange, IsLate, sides}
+use Rattle.mc_pure_ops.specs.Join.Joint.{Pairs, IsJoint, IsJointRange, IsLate, sides, IsOfBoth}
 use Rattle.mc_pure_ops.specs.Canon.Order.{Among}
-use Rattle.mc_pure_ops.proofs.CanonLemmas.Listing.{contains_from, contains_to, either_in, right_in}
-use Rattle.mc_pure_ops.proofs.CanonLemmas.Nodes.{in_as, ne_as, node_listed}
+use Rattle.mc_pure_ops.proofs.CanonLemmas.Listing.{contains_from, contains_to, either_in, right_in, left_in}
+use Rattle.mc_pure_ops.proofs.CanonLemmas.Nodes.{in_as, ne_as, node_listed, place_of_kind, whole_least}
 use Rattle.mc_state.specs.State.{State, pure_of}
 use Rattle.mc_kernel.proofs.Plain.{known_of}
 use Rattle.mc_joins.specs.JointExamples.{two_kinds, two_known, two_turned, tied, pointers, TiedCountersJoin, TurnedJoins, OneClassJoins}
-use Rattle.mc_joins.specs.Joinings.{Joining, begun}
+use Rattle.mc_joins.specs.Joinings.{Joining, begun, Pair}
 use Rattle.mc_joins.specs.Parts.{Basis}
 use Rattle.mc_joins.specs.Same.Laws.{FalseRenamed}
 use Rattle.mc_joins.specs.Whole.{AreJointAtoms, Joins, over_nodes, result_of}
@@ -35,6 +35,14 @@ use Rattle.mc_joins.proofs.AtomsLemmas.Kinds.{joinable, joint_kinds}
 use Rattle.mc_joins.proofs.AtomsLemmas.Present.{atoms_there}
 use Rattle.mc_joins.proofs.JointKinds.{Proper}
 use Rattle.mc_joins.proofs.Truth.{base_true, not_false}
+use Rattle.std.specs.Int.{int_max, int_min}
+use Rattle.mc_base.specs.Ranges.Thresholds.{WidensUp}
+use Rattle.mc_pure_ops.specs.Canon.Left.{IsLeft, IsRangeLeft, IsClassLeft}
+use Rattle.mc_pure_ops.proofs.CanonLemmas.Lists.{number}
+use Rattle.mc_pure_ops.proofs.CanonLemmas.Within.{range_in}
+use Rattle.mc_pure_ops.proofs.JoinLemmas.Follow.{range_once}
+use Rattle.mc_rules_logic.specs.Fold.Changed.{alone}
+use Rattle.mc_joins.proofs.AtomsLemmas.Listing.{least_range}
 
 -- numbers for nodes 1 and 2
 abbrev two_values : ℤ → ℤ → Valuation
@@ -116,6 +124,104 @@ widens l h k more positive low = record {
   );
 }
 
+-- a node is 0, 1 or 2
+nodes_are : (n : NodeId) → IsNode (two_kinds Int) n → (n ≡ null) ⊎ ((n ≡ node 1) ⊎ (n ≡ node 2))
+nodes_are n there = let p = node_listed (two_kinds Int) n there in at p.0 p.1
+  where
+    at : (i : ℕ) → slice_get (nodes_of (two_kinds Int)) i ≡ Some n → (n ≡ null) ⊎ ((n ≡ node 1) ⊎ (n ≡ node 2))
+    at zero e = inl (cc e)
+    at (suc zero) e = inr (inl (cc e))
+    at (suc (suc zero)) e = inr (inr (cc e))
+    at (suc (suc (suc i))) e = absurd (cc e)
+
+some_pair : {x y : Pair} → Some x ≡ Some y → x ≡ y
+some_pair e = cc
+
+some_first : {a b c d : NodeId} → (let x : Pair = (a, b) in let y : Pair = (c, d) in Some x ≡ Some y) → a ≡ c
+some_first {a} {b} {c} {d} e = ap (λ (p : Pair). p.0) (some_pair {x = (a, b)} {y = (c, d)} e)
+
+some_second : {a b c d : NodeId} → (let x : Pair = (a, b) in let y : Pair = (c, d) in Some x ≡ Some y) → b ≡ d
+some_second {a} {b} {c} {d} e = ap (λ (p : Pair). p.1) (some_pair {x = (a, b)} {y = (c, d)} e)
+
+-- such a node that has a kind is an int other than node 0
+int_is : (n : NodeId) (kind : Kind) → kind_of (two_kinds Int) n ≡ Some kind → (kind ≡ Int) × (n ≢ null)
+int_is n kind e = at (nodes_are n (kind, inr e))
+  where
+    here : {m : NodeId} → n ≡ m → kind_of (two_kinds Int) m ≡ Some kind
+    here same = subst (λ (u : NodeId). kind_of (two_kinds Int) u ≡ Some kind) same e
+
+    some_kind : {k : Kind} → Some Int ≡ Some k → k ≡ Int
+    some_kind e = cc
+
+    at : (n ≡ null) ⊎ ((n ≡ node 1) ⊎ (n ≡ node 2)) → (kind ≡ Int) × (n ≢ null)
+    at (inl same) = absurd (let none = here same in cc)
+    at (inr (inl same)) = (some_kind (here same), λ z. let number_is : 1 ≡ 0 = number (sym same ∙ z) in omega arith)
+    at (inr (inr same)) = (some_kind (here same), λ z. let number_is : 2 ≡ 0 = number (sym same ∙ z) in omega arith)
+
+ends_are : (x h y k x' h' y' k' lo hi : ℤ) → x' ≡ x → h' ≡ h → y' ≡ y → k' ≡ k → IsJointRange Int 3 marks x h y k lo hi → IsJointRange Int 3 marks x' h' y' k' lo hi
+ends_are x h y k x' h' y' k' lo hi p q r s j =
+    subst (λ (z : ℤ). IsJointRange Int 3 marks z h' y' k' lo hi) (sym p)
+    (subst (λ (z : ℤ). IsJointRange Int 3 marks x z y' k' lo hi) (sym q)
+    (subst (λ (z : ℤ). IsJointRange Int 3 marks x h z k' lo hi) (sym r)
+    (subst (λ (z : ℤ). IsJointRange Int 3 marks x h y z lo hi) (sym s) j)))
+
+-- a high end that passes the old one goes to 10 or beyond
+far_end : (old new hi : ℤ) → old <ℤ new → pos 0 <ℤ new → WidensUp marks old new hi → pos 10 ≤ℤ hi
+far_end old new hi more positive w =
+    let near = w.moved more in
+    elim near.among [
+      | inl c ↦ listed_end c.0 c.1 c.2 near.reached
+      | inr e ↦ omega (arith, ints, e)
+    ]
+  where
+    listed_end : (i : ℕ) → i < 2 → get_or marks i hi ≡ hi → new ≤ℤ hi → pos 10 ≤ℤ hi
+    listed_end zero less e reached = let zero_is : pos 0 ≡ hi = e in absurd (let no : ⊥ = omega (arith, ints, zero_is, reached, positive) in no)
+    listed_end (suc zero) less e reached = let ten : pos 10 ≡ hi = e in omega (arith, ints, ten)
+    listed_end (suc (suc i)) less e reached = absurd (let no : ⊥ = omega (arith, less) in no)
+
+-- where no disequality is known from the beginning, none is on the canonical list
+no_gap_listed : (laws : ExampleLaws) (p : Pure) (side : IsSide p) → p.starts ≡ [] → ((a b : NodeId) (c : ℤ) → Among p.written (Ne a b c) → ⊥) → (list : List Atom) → IsCanonical p list
+    → (a b : NodeId) (c : ℤ) → Among list (Ne a b c) → ⊥
+no_gap_listed laws p side bare none list (inl wrong) a b c m = side.consistent wrong.0
+no_gap_listed laws p side bare none list (inr is) a b c m =
+    let l = is.1 in
+    elim (either_in l.ranges (l.equalities ++ l.differences) (Ne a b c) (subst (λ (fs : List Atom). Among fs (Ne a b c)) l.together m)) [
+      | inl k ↦ (l.ranges_listed.exact (Ne a b c)).0 (contains_from l.ranges (Ne a b c) k)
+      | inr k ↦ elim (either_in l.equalities l.differences (Ne a b c) k) [
+        | inl e ↦ (l.equalities_listed.exact (Ne a b c)).0 (contains_from l.equalities (Ne a b c) e)
+        | inr d ↦ by_ranges l ((l.differences_listed.exact (Ne a b c)).0 (contains_from l.differences (Ne a b c) d))
+      ]
+    ]
+  where
+    no_base : (x y : NodeId) (d : ℤ) (f : Atom) → Base p f → f ≡ Ne x y d → ⊥
+    no_base x y d f (known.written i e) same = none x y d (i, subst (λ (g : Atom). slice_get p.written i ≡ Some g) same e)
+    no_base x y d _ known.zero same = cc
+    no_base x y d _ (known.kind i e) same = cc
+    no_base x y d _ (known.block i e) same = cc
+    no_base x y d _ (known.apart {a} i j ne e k) same =
+        let nothing : slice_get {X = NodeId} [] i ≡ Some a = subst (λ (ns : List NodeId). slice_get ns i ≡ Some a) bare e in cc
+
+    class_of : (f : Atom) → IsClassLeft p None f → IsClassAtom p f
+    class_of (Eq x y e) k = (k.0, k.1, whole_least p y k.4, k.5)
+    class_of (Ne x y e) k = absurd k
+    class_of (In n lo hi) k = absurd k
+
+    by_ranges : (l : IsListOf p list) → IsDifference p (plainly p (l.ranges ++ l.equalities)) (Ne a b c) → ⊥
+    by_ranges l d =
+        let r : Pure = plainly p (l.ranges ++ l.equalities) in
+        let kinds_in : (n : NodeId) (k : Kind) → kind_of p.kinds n ≡ Some k → IsLeft None n → Follows r (kind_atom n k) =
+        λ n k e left. let at = place_of_kind p.kinds n k e in base (known.kind at.0 at.1) in
+        let ranges_in : (f : Atom) → IsRangeLeft p None f → Follows r f =
+        λ f k. let at = left_in l.ranges l.equalities f (contains_to l.ranges f ((l.ranges_listed.exact f).1 k.0)) in base (known.written at.0 at.1) in
+        let classes_in : (f : Atom) → IsClassLeft p None f → Follows r f =
+        λ f k. let at = right_in l.ranges l.equalities f (contains_to l.equalities f ((l.equalities_listed.exact f).1 (class_of f k))) in base (known.written at.0 at.1) in
+        let h = laws.lists.says p side.form.nf side.form.normal (Ne a b c) d.3 in
+        let in_r = range_in laws.lists.says p side.consistent side.form.nf side.form.normal None r (λ n there left. there) kinds_in ranges_in classes_in in
+        elim h.2 [
+          | inl apart ↦ d.4 (disjoint (in_r a _ _ tt (least_range laws.lists.says p side.fit side.consistent side.form a h.0)) (in_r b _ _ tt (least_range laws.lists.says p side.fit side.consistent side.form b h.1)) apart)
+          | inr listed_one ↦ elim listed_one [ inl u ↦ no_base u.0 u.1 u.2 (Ne u.0 u.1 u.2) u.3 refl | inr u ↦ no_base u.0 u.1 u.2 (Ne u.0 u.1 u.2) u.3 refl ]
+        ]
+
 -- ---- the joins
 
 -- two states in which both variables are the same two nodes
@@ -167,16 +273,141 @@ module _ (laws : ExampleLaws) where
       (omega (arith, ints), omega (arith, ints)) (omega (arith, ints), omega (arith, ints)) (omega (arith, ints), omega (arith, ints)) (omega (arith, ints), omega (arith, ints))
       ((omega (arith, ints), low), (refl, tt)) ((low, omega (arith, ints)), (refl, tt))
 
+  tied_first : (high : ℤ) → pos 0 ≤ℤ high → high ≤ℤ pos 2 → HasRange (counters_of high) (node 1) (pos 0) high
+  tied_first high low top =
+      first_range laws Int (tied high) (pos 0) high (pos 1) (high +ℤ pos 1)
+      (base (known.written 0 refl))
+      (omega (arith, ints), omega (arith, ints)) (omega (arith, ints), omega (arith, ints)) (omega (arith, ints), omega (arith, ints)) (omega (arith, ints), omega (arith, ints))
+      ((omega (arith, ints), low), (refl, tt)) ((low, omega (arith, ints)), (refl, tt))
+
+  tied_no_gap : (high : ℤ) (a b : NodeId) (c : ℤ) → Among (tied high) (Ne a b c) → ⊥
+  tied_no_gap high a b c m = at m.0 m.1
+    where
+      at : (i : ℕ) → slice_get (tied high) i ≡ Some (Ne a b c) → ⊥
+      at zero e = cc
+      at (suc zero) e = cc
+      at (suc (suc i)) e = cc
+
+  abbrev tied_left : State
+  tied_left = two_known Int (tied (pos 1))
+
+  abbrev tied_right : State
+  tied_right = two_known Int (tied (pos 2))
+
+  abbrev tied_last : Joining
+  tied_last = begun tied_left tied_right
+
+  side_one : IsSide (counters_of (pos 1))
+  side_one = tied_side (pos 1) (omega (arith, ints)) (omega (arith, ints))
+
+  side_two : IsSide (counters_of (pos 2))
+  side_two = tied_side (pos 2) (omega (arith, ints)) (omega (arith, ints))
+
+  -- the left side is true by any counters of it
+  left_true : (y : ℤ) → pos 0 ≤ℤ y → y ≤ℤ pos 1 → (f : Atom) → Follows (counters_of (pos 1)) f → IsTrueAtom (two_values y (y +ℤ pos 1)) f
+  left_true y from to f d =
+      laws.truth (counters_of (pos 1)) (two_values y (y +ℤ pos 1))
+      (base_true (two_values y (y +ℤ pos 1)) (two_kinds Int) (tied (pos 1)) refl ((omega (arith, ints), omega (arith, ints)), ((omega (arith, ints), omega (arith, ints)), tt)) ((from, to), (refl, tt))) f (inl d)
+
+  -- counters from 0 to 9 meet what the join gives
+  module _ (x : ℤ) (low : pos 0 ≤ℤ x) (top : x ≤ℤ pos 9) (t : State) (kinds : t.kinds ≡ two_kinds Int) (a : AreJointAtoms 3 marks tied_last t) where
+    abbrev v : Valuation
+    v = two_values x (x +ℤ pos 1)
+
+    tie_holds : (i k : ℕ) (c : ℤ) → two_values (pos 0) (pos 1) i ≡ two_values (pos 0) (pos 1) k +ℤ c → two_values (pos 1) (pos 2) i ≡ two_values (pos 1) (pos 2) k +ℤ c → v i ≡ v k +ℤ c
+    tie_holds zero zero c p q = p
+    tie_holds zero (suc zero) c p q = absurd (let no : ⊥ = omega (arith, ints, p, q) in no)
+    tie_holds zero (suc (suc k)) c p q = absurd (let no : ⊥ = omega (arith, ints, p, q) in no)
+    tie_holds (suc zero) zero c p q = absurd (let no : ⊥ = omega (arith, ints, p, q) in no)
+    tie_holds (suc zero) (suc zero) c p q = omega (arith, ints, p, q)
+    tie_holds (suc zero) (suc (suc k)) c p q = omega (arith, ints, p, q)
+    tie_holds (suc (suc i)) zero c p q = absurd (let no : ⊥ = omega (arith, ints, p, q) in no)
+    tie_holds (suc (suc i)) (suc zero) c p q = omega (arith, ints, p, q)
+    tie_holds (suc (suc i)) (suc (suc k)) c p q = omega (arith, ints, p, q)
+
+    gap_holds : (i k : ℕ) → (two_values (pos 0) (pos 1) i ≡ two_values (pos 0) (pos 1) k +ℤ pos 0 → ⊥) → v i ≡ v k +ℤ pos 0 → ⊥
+    gap_holds zero zero p e = p refl
+    gap_holds zero (suc zero) p e = p refl
+    gap_holds zero (suc (suc k)) p e = omega (arith, ints, e, low)
+    gap_holds (suc zero) zero p e = p refl
+    gap_holds (suc zero) (suc zero) p e = p refl
+    gap_holds (suc zero) (suc (suc k)) p e = omega (arith, ints, e)
+    gap_holds (suc (suc i)) zero p e = omega (arith, ints, e, low)
+    gap_holds (suc (suc i)) (suc zero) p e = omega (arith, ints, e)
+    gap_holds (suc (suc i)) (suc (suc k)) p e = p refl
+
+    -- where the new range goes on beyond the old one, it is widened to 10 or beyond
+    wide_holds : (l h k lo hi z : ℤ) → l ≤ℤ z → z ≤ℤ pos 10 → h <ℤ k → pos 0 <ℤ k → IsJointRange Int 3 marks l h l k lo hi → (lo ≤ℤ z) × (z ≤ℤ hi)
+    wide_holds l h k lo hi z from to more positive j =
+        let wide = j.wide late in
+        let low_is : lo ≡ l = wide.0.kept (omega (arith, ints, clamps)) in
+        let far : pos 10 ≤ℤ hi = far_end h (int_max h k) hi (omega (arith, ints, clamps, more)) (omega (arith, ints, clamps, more, positive)) wide.1 in
+        (omega (arith, ints, low_is, from), omega (arith, ints, far, to))
+
+    range_at : (n l r : NodeId) (y h z k lo hi : ℤ) (i : ℕ) → n.0 ≡ i → n ≢ null → slice_get tied_last.pairs i ≡ Some (l, r) → HasRange (counters_of (pos 1)) l y h → HasRange (counters_of (pos 2)) r z k
+        → IsJointRange Int 3 marks y h z k lo hi → (lo ≤ℤ v i) × (v i ≤ℤ hi)
+    range_at n l r y h z k lo hi zero is other e p q j = absurd (other (ap (λ (m : ℕ). let x : NodeId = record { 0 = m } in x) is))
+    range_at n l r y h z k lo hi (suc zero) is other e p q j =
+        let b = range_once (counters_of (pos 1)) side_one.consistent (node 1) (pos 0) (pos 1) y h (tied_first (pos 1) (omega (arith, ints)) (omega (arith, ints))) (subst (λ (u : NodeId). HasRange (counters_of (pos 1)) u y h) (sym (some_first e)) p) in
+        let d = range_once (counters_of (pos 2)) side_two.consistent (node 1) (pos 0) (pos 2) z k (tied_first (pos 2) (omega (arith, ints)) (omega (arith, ints))) (subst (λ (u : NodeId). HasRange (counters_of (pos 2)) u z k) (sym (some_second e)) q) in
+        wide_holds (pos 0) (pos 1) (pos 2) lo hi x low (omega (arith, ints, top)) (omega (arith, ints)) (omega (arith, ints)) (ends_are y h z k (pos 0) (pos 1) (pos 0) (pos 2) lo hi b.0 b.1 d.0 d.1 j)
+    range_at n l r y h z k lo hi (suc (suc zero)) is other e p q j =
+        let b = range_once (counters_of (pos 1)) side_one.consistent (node 2) (pos 1) (pos 2) y h (tied_range (pos 1) (omega (arith, ints)) (omega (arith, ints))) (subst (λ (u : NodeId). HasRange (counters_of (pos 1)) u y h) (sym (some_first e)) p) in
+        let d = range_once (counters_of (pos 2)) side_two.consistent (node 2) (pos 1) (pos 3) z k (tied_range (pos 2) (omega (arith, ints)) (omega (arith, ints))) (subst (λ (u : NodeId). HasRange (counters_of (pos 2)) u z k) (sym (some_second e)) q) in
+        wide_holds (pos 1) (pos 2) (pos 3) lo hi (x +ℤ pos 1) (omega (arith, ints, low)) (omega (arith, ints, top)) (omega (arith, ints)) (omega (arith, ints)) (ends_are y h z k (pos 1) (pos 2) (pos 1) (pos 3) lo hi b.0 b.1 d.0 d.1 j)
+    range_at n l r y h z k lo hi (suc (suc (suc i))) is other e p q j = absurd (cc e)
+
+    -- a node of the result is that node of both sides
+    own_node : (i : ℕ) (l r : NodeId) → slice_get tied_last.pairs i ≡ Some (l, r) → l.0 ≡ i
+    own_node zero l r e = number (sym (some_first e))
+    own_node (suc zero) l r e = number (sym (some_first e))
+    own_node (suc (suc zero)) l r e = number (sym (some_first e))
+    own_node (suc (suc (suc i))) l r e = absurd (cc e)
+
+    no_left : (l m : NodeId) (c : ℤ) → Among a.join.left_list (Ne l m c) → ⊥
+    no_left = no_gap_listed laws (counters_of (pos 1)) side_one refl (tied_no_gap (pos 1)) a.join.left_list a.join.left_canonical
+
+    no_right : (l m : NodeId) (c : ℤ) → Among a.join.right_list (Ne l m c) → ⊥
+    no_right = no_gap_listed laws (counters_of (pos 2)) side_two refl (tied_no_gap (pos 2)) a.join.right_list a.join.right_canonical
+
+    of_both : (f : Atom) → IsOfBoth (sides (pure_of tied_left) (pure_of tied_right) tied_last.pairs a.join.left_list a.join.right_list 3 marks) t.kinds f → IsTrueAtom v f
+    of_both (Eq b d c) o =
+        let first = own_node b.0 o.0 o.1 o.4 in
+        let second = own_node d.0 o.2 o.3 o.5 in
+        let p = left_true (pos 0) (omega (arith, ints)) (omega (arith, ints)) (Eq o.0 o.2 c) o.6 in
+        let q = left_true (pos 1) (omega (arith, ints)) (omega (arith, ints)) (Eq o.0 o.2 c) o.6 in
+        subst (λ (i : ℕ). v i ≡ v d.0 +ℤ c) first (subst (λ (k : ℕ). v o.0.0 ≡ v k +ℤ c) second (tie_holds o.0.0 o.2.0 c p q))
+    of_both (Ne b d c) o = elim o.8 [
+      | inl zero_is ↦
+          let first = own_node b.0 o.0 o.1 o.4 in
+          let second = own_node d.0 o.2 o.3 o.5 in
+          let p = left_true (pos 0) (omega (arith, ints)) (omega (arith, ints)) (Ne o.0 o.2 (pos 0)) (subst (λ (z : ℤ). Follows (counters_of (pos 1)) (Ne o.0 o.2 z)) zero_is o.6) in
+          subst (λ (z : ℤ). v b.0 ≡ v d.0 +ℤ z → ⊥) (sym zero_is)
+          (subst (λ (i : ℕ). v i ≡ v d.0 +ℤ pos 0 → ⊥) first (subst (λ (k : ℕ). v o.0.0 ≡ v k +ℤ pos 0 → ⊥) second (gap_holds o.0.0 o.2.0 p)))
+      | inr listed_on ↦ elim listed_on [ inl l ↦ absurd (no_left o.0 o.2 c l) | inr r ↦ absurd (no_right o.1 o.3 c r) ]
+    ]
+    of_both (In n lo hi) o =
+        let kind = int_is n o.0 (subst (λ (ks : Kinds). kind_of ks n ≡ Some o.0) kinds o.1) in
+        range_at n o.2 o.3 o.5 o.6 o.7 o.8 lo hi n.0 refl kind.1 o.4 o.9 o.10 (subst (λ (z : Kind). IsJointRange z 3 marks o.5 o.6 o.7 o.8 lo hi) kind.0 o.11)
+
+    all_hold : (fs : List Atom) → ((f : Atom) → Among fs f → IsTrueAtom v f) → AllByRecursion (IsTrueAtom v) fs
+    all_hold [] h = tt
+    all_hold (f ∷ fs) h = (h f (0, refl), all_hold fs (λ g m. h g (suc m.0, m.1)))
+
+    entailed_holds : (f : Atom) → Follows (alone t) f → IsTrueAtom v f
+    entailed_holds f d =
+        laws.truth (over_nodes t a.joint) v
+        (base_true v t.kinds a.joint refl
+        (subst (λ (ks : Kinds). AllByRecursion (λ (k : NodeId × Kind). InKind k.1 (v k.0.0)) ks) (sym kinds) ((omega (arith, ints, low), omega (arith, ints, top)), ((omega (arith, ints, low), omega (arith, ints, top)), tt)))
+        (all_hold a.joint (λ g m. of_both g (a.join.sound g m).1))) f (inl ((a.same f).0 d))
+
   pub tied_counters_join : TiedCountersJoin
   tied_counters_join w =
-      let one : (pos 0 ≤ℤ pos 1) × (pos 1 ≤ℤ pos 2) = (omega (arith, ints), omega (arith, ints)) in
-      let two : (pos 0 ≤ℤ pos 2) × (pos 2 ≤ℤ pos 2) = (omega (arith, ints), omega (arith, ints)) in
-      let got = joint_there laws Int (tied (pos 1)) (tied (pos 2)) (tied_side (pos 1) one.0 one.1) (tied_side (pos 2) two.0 two.1) 3 marks in
-      let j = begun (two_known Int (tied (pos 1))) (two_known Int (tied (pos 2))) in
-      let t = result_of (two_known Int (tied (pos 1))) (two_known Int (tied (pos 2))) j got.0 in
-      let tie = says_joint 3 marks j t got.1 (Eq (node 2) (node 1) (pos 1))
+      let got = joint_there laws Int (tied (pos 1)) (tied (pos 2)) side_one side_two 3 marks in
+      let t = result_of tied_left tied_right tied_last got.0 in
+      let tie = says_joint 3 marks tied_last t got.1 (Eq (node 2) (node 1) (pos 1))
       (((Int, inr refl, inr refl), (omega (arith, ints), omega (arith, ints))), (node 2, node 2, node 1, node 1, refl, refl, base (known.written 1 refl), base (known.written 1 refl))) in
-      let wide = says_joint 3 marks j t got.1 (In (node 2) (pos 1) (pos 10)) (
+      let wide = says_joint 3 marks tied_last t got.1 (In (node 2) (pos 1) (pos 10)) (
         ((Int, inr refl), (omega (arith, ints), omega (arith, ints)), (omega (arith, ints), omega (arith, ints))),
         (
           Int,
@@ -188,13 +419,21 @@ module _ (laws : ExampleLaws) where
           pos 2,
           pos 1,
           pos 3,
-          tied_range (pos 1) one.0 one.1,
-          tied_range (pos 2) two.0 two.1,
+          tied_range (pos 1) (omega (arith, ints)) (omega (arith, ints)),
+          tied_range (pos 2) (omega (arith, ints)) (omega (arith, ints)),
           widens (pos 1) (pos 2) (pos 3) (omega (arith, ints)) (omega (arith, ints)) (omega (arith, ints)),
         ),
       ) in
-      let closed = in_as (over_nodes t got.1.joint) (shifted {a = node 1} {b = node 2} (turned tie) wide) (omega (arith, ints)) (omega (arith, ints)) in
-      (t, is_whole laws Int (tied (pos 1)) (tied (pos 2)) (tied_side (pos 1) one.0 one.1) (tied_side (pos 2) two.0 two.1) 3 marks w got.0 got.1, inl ((got.1.same _).1 tie), inl ((got.1.same _).1 closed))
+      let closed : Follows (over_nodes t got.1.joint) (In (node 1) (pos 0) (pos 9)) =
+      in_as (over_nodes t got.1.joint) (shifted {a = node 1} {b = node 2} (turned tie) wide) (omega (arith, ints)) (omega (arith, ints)) in
+      let least = entailed_holds (pos 0) (omega (arith, ints)) (omega (arith, ints)) t refl got.1 in
+      let most = entailed_holds (pos 9) (omega (arith, ints)) (omega (arith, ints)) t refl got.1 in (
+        t,
+        is_whole laws Int (tied (pos 1)) (tied (pos 2)) side_one side_two 3 marks w got.0 got.1,
+        inl ((got.1.same _).1 tie),
+        record { follows = (got.1.same _).1 closed; least = λ m k d. ((least (In (node 1) m k) d).0, (most (In (node 1) m k) d).1) },
+        record { follows = (got.1.same _).1 wide; least = λ m k d. ((least (In (node 2) m k) d).0, (most (In (node 2) m k) d).1) },
+      )
 
   -- pointers
   pointer_side : IsSide (known_of (two_kinds Ptr) pointers)
@@ -222,16 +461,6 @@ turned_atoms = Ne (node 2) (node 1) (pos 5) ∷ []
 
 abbrev turned_pure : Pure
 turned_pure = known_of (two_kinds Int) turned_atoms
-
--- a node is 0, 1 or 2
-nodes_are : (n : NodeId) → IsNode (two_kinds Int) n → (n ≡ null) ⊎ ((n ≡ node 1) ⊎ (n ≡ node 2))
-nodes_are n there = let p = node_listed (two_kinds Int) n there in at p.0 p.1
-  where
-    at : (i : ℕ) → slice_get (nodes_of (two_kinds Int)) i ≡ Some n → (n ≡ null) ⊎ ((n ≡ node 1) ⊎ (n ≡ node 2))
-    at zero e = inl (cc e)
-    at (suc zero) e = inr (inl (cc e))
-    at (suc (suc zero)) e = inr (inr (cc e))
-    at (suc (suc (suc i))) e = absurd (cc e)
 
 module _ (laws : ExampleLaws) where
   turned_side : IsSide turned_pure

@@ -1,14 +1,14 @@
 -- Joins of two variables with their atoms.
-use Rattle.std.specs.Prelude.{ℤ, pos, List, [], ◌∷◌, Option, Some}
-use Rattle.mc_base.specs.declared.ids.NodeId.{NodeId}
+use Rattle.std.specs.Prelude.{ℤ, pos, List, [], ◌∷◌, Some}
 use Rattle.mc_base.specs.declared.plain.Atom.{Atom}
 use Rattle.mc_base.specs.declared.plain.Atom.TheVariants.{Eq, Ne, In}
 use Rattle.mc_base.specs.declared.plain.Kind.{Kind}
 use Rattle.mc_base.specs.declared.plain.Kind.TheVariants.{Int, Ptr}
+use Rattle.mc_pure.specs.Derived.{HasRange}
 use Rattle.mc_pure.specs.Examples.{node}
 use Rattle.mc_pure.specs.Pure.{Kinds}
 use Rattle.mc_state.specs.Facts.{Derives}
-use Rattle.mc_state.specs.State.{State}
+use Rattle.mc_state.specs.State.{State, pure_of}
 use Rattle.mc_joins.specs.Examples.{state_of}
 use Rattle.mc_joins.specs.Parts.{Basis}
 use Rattle.mc_joins.specs.Whole.{Joins}
@@ -29,12 +29,14 @@ two_turned kind atoms = state_of (Some (node 2) ∷ Some (node 1) ∷ []) (two_k
 abbrev pub tied : ℤ → List Atom
 tied high = In (node 1) (pos 0) high ∷ Eq (node 2) (node 1) (pos 1) ∷ []
 
--- in the third pass the range of the second counter is widened to the next threshold, 10; so the first is 9 at most
+-- in the third pass the ranges of both are widened to the next threshold, 10; the second is one more, so the first lies between
+-- 0 and 9, and no range is narrower
 abbrev pub TiedCountersJoin : Type 0
 TiedCountersJoin =
     (w : Basis)
     → (t : State) × Joins w 3 (pos 0 ∷ pos 10 ∷ []) (two_known Int (tied (pos 1))) (two_known Int (tied (pos 2))) [] t
-    × Derives t (Eq (node 2) (node 1) (pos 1)) × Derives t (In (node 1) (pos 0) (pos 9))
+    × Derives t (Eq (node 2) (node 1) (pos 1)) × HasRange (pure_of t) (node 1) (pos 0) (pos 9)
+    × HasRange (pure_of t) (node 2) (pos 1) (pos 10)
 
 -- a disequality of two variables whose nodes are numbered the other way round than those of what the join gives
 abbrev pub TurnedJoins : Type 0

@@ -1,5 +1,6 @@
 //! Joins of two states, states equal up to renaming, and chains of several passes, as definitions with their laws, and
-//! the first code over them.
+//! the first code over them. A join of states that are not false has exactly one result once no step is left: its atoms
+//! are the canonical list of what the joint atoms entail.
 //!
 //! Stands on `mc_kernel`; called by no crate of the program yet.
 #![tactic(auto)]
