@@ -35,7 +35,7 @@ use Rattle.mc_joins.proofs.AtomsLemmas.Kinds.{joinable, joint_kinds}
 use Rattle.mc_joins.proofs.AtomsLemmas.Present.{atoms_there}
 use Rattle.mc_joins.proofs.JointKinds.{Proper}
 use Rattle.mc_joins.proofs.Truth.{base_true, not_false}
-use Rattle.std.specs.Int.{int_max, int_min}
+use Rattle.std.specs.Int.{int_max}
 use Rattle.mc_base.specs.Ranges.Thresholds.{WidensUp}
 use Rattle.mc_pure_ops.specs.Canon.Left.{IsLeft, IsRangeLeft, IsClassLeft}
 use Rattle.mc_pure_ops.proofs.CanonLemmas.Lists.{number}
@@ -45,7 +45,7 @@ use Rattle.mc_rules_logic.specs.Fold.Changed.{alone}
 use Rattle.mc_joins.proofs.AtomsLemmas.Listing.{least_range}
 
 -- numbers for nodes 1 and 2
-abbrev two_values : ℤ → ℤ → Valuation
+abbrev pub two_values : ℤ → ℤ → Valuation
 two_values a b zero = pos 0
 two_values a b (suc zero) = a
 two_values a b (suc (suc n)) = b
@@ -96,7 +96,7 @@ module _ (laws : ExampleLaws) (kind : Kind) where
 
 -- ---- counters that go up together
 
-abbrev marks : List ℤ
+abbrev pub marks : List ℤ
 marks = pos 0 ∷ pos 10 ∷ []
 
 late : IsLate Int 3
@@ -125,7 +125,7 @@ widens l h k more positive low = record {
 }
 
 -- a node is 0, 1 or 2
-nodes_are : (n : NodeId) → IsNode (two_kinds Int) n → (n ≡ null) ⊎ ((n ≡ node 1) ⊎ (n ≡ node 2))
+pub nodes_are : (n : NodeId) → IsNode (two_kinds Int) n → (n ≡ null) ⊎ ((n ≡ node 1) ⊎ (n ≡ node 2))
 nodes_are n there = let p = node_listed (two_kinds Int) n there in at p.0 p.1
   where
     at : (i : ℕ) → slice_get (nodes_of (two_kinds Int)) i ≡ Some n → (n ≡ null) ⊎ ((n ≡ node 1) ⊎ (n ≡ node 2))
@@ -254,7 +254,7 @@ says_joint round thresholds j t a f is = a.join.complete f is
 
 module _ (laws : ExampleLaws) where
   -- counters
-  abbrev counters_of : ℤ → Pure
+  abbrev pub counters_of : ℤ → Pure
   counters_of high = known_of (two_kinds Int) (tied high)
 
   int_of : (z : ℤ) → pos 0 ≤ℤ z → z ≤ℤ pos 3 → InKind Int z
@@ -288,26 +288,30 @@ module _ (laws : ExampleLaws) where
       at (suc zero) e = cc
       at (suc (suc i)) e = cc
 
-  abbrev tied_left : State
+  abbrev pub tied_left : State
   tied_left = two_known Int (tied (pos 1))
 
-  abbrev tied_right : State
+  abbrev pub tied_right : State
   tied_right = two_known Int (tied (pos 2))
 
-  abbrev tied_last : Joining
+  abbrev pub tied_last : Joining
   tied_last = begun tied_left tied_right
 
-  side_one : IsSide (counters_of (pos 1))
+  pub side_one : IsSide (counters_of (pos 1))
   side_one = tied_side (pos 1) (omega (arith, ints)) (omega (arith, ints))
 
-  side_two : IsSide (counters_of (pos 2))
+  pub side_two : IsSide (counters_of (pos 2))
   side_two = tied_side (pos 2) (omega (arith, ints)) (omega (arith, ints))
 
-  -- the left side is true by any counters of it
+  -- such a state is true by any counters that lie in its range
+  pub counter_true : (high : ℤ) → pos 1 ≤ℤ high → (y : ℤ) → pos 0 ≤ℤ y → y ≤ℤ high → high ≤ℤ pos 2 → (f : Atom) → Follows (counters_of high) f → IsTrueAtom (two_values y (y +ℤ pos 1)) f
+  counter_true high most y from to top f d =
+      laws.truth (counters_of high) (two_values y (y +ℤ pos 1))
+      (base_true (two_values y (y +ℤ pos 1)) (two_kinds Int) (tied high) refl ((omega (arith, ints, from, to, top), omega (arith, ints, from, to, top)), ((omega (arith, ints, from, to, top), omega (arith, ints, from, to, top)), tt)) ((from, to), (refl, tt))) f
+      (inl d)
+
   left_true : (y : ℤ) → pos 0 ≤ℤ y → y ≤ℤ pos 1 → (f : Atom) → Follows (counters_of (pos 1)) f → IsTrueAtom (two_values y (y +ℤ pos 1)) f
-  left_true y from to f d =
-      laws.truth (counters_of (pos 1)) (two_values y (y +ℤ pos 1))
-      (base_true (two_values y (y +ℤ pos 1)) (two_kinds Int) (tied (pos 1)) refl ((omega (arith, ints), omega (arith, ints)), ((omega (arith, ints), omega (arith, ints)), tt)) ((from, to), (refl, tt))) f (inl d)
+  left_true y from to = counter_true (pos 1) (omega (arith, ints)) y from to (omega (arith, ints))
 
   -- counters from 0 to 9 meet what the join gives
   module _ (x : ℤ) (low : pos 0 ≤ℤ x) (top : x ≤ℤ pos 9) (t : State) (kinds : t.kinds ≡ two_kinds Int) (a : AreJointAtoms 3 marks tied_last t) where
@@ -401,39 +405,65 @@ module _ (laws : ExampleLaws) where
         (subst (λ (ks : Kinds). AllByRecursion (λ (k : NodeId × Kind). InKind k.1 (v k.0.0)) ks) (sym kinds) ((omega (arith, ints, low), omega (arith, ints, top)), ((omega (arith, ints, low), omega (arith, ints, top)), tt)))
         (all_hold a.joint (λ g m. of_both g (a.join.sound g m).1))) f (inl ((a.same f).0 d))
 
+  -- what the join gives
+  abbrev tied_got : (atoms : List Atom) × AreJointAtoms 3 marks tied_last (result_of tied_left tied_right tied_last atoms)
+  tied_got = joint_there laws Int (tied (pos 1)) (tied (pos 2)) side_one side_two 3 marks
+
+  abbrev pub tied_result : State
+  tied_result = result_of tied_left tied_right tied_last tied_got.0
+
+  pub tied_joins : (w : Basis) → Joins w 3 marks tied_left tied_right [] tied_result
+  tied_joins w = is_whole laws Int (tied (pos 1)) (tied (pos 2)) side_one side_two 3 marks w tied_got.0 tied_got.1
+
+  tied_tie : Follows (over_nodes tied_result tied_got.1.joint) (Eq (node 2) (node 1) (pos 1))
+  tied_tie =
+      says_joint 3 marks tied_last tied_result tied_got.1 (Eq (node 2) (node 1) (pos 1))
+      (((Int, inr refl, inr refl), (omega (arith, ints), omega (arith, ints))), (node 2, node 2, node 1, node 1, refl, refl, base (known.written 1 refl), base (known.written 1 refl)))
+
+  tied_wide : Follows (over_nodes tied_result tied_got.1.joint) (In (node 2) (pos 1) (pos 10))
+  tied_wide = says_joint 3 marks tied_last tied_result tied_got.1 (In (node 2) (pos 1) (pos 10)) (
+    ((Int, inr refl), (omega (arith, ints), omega (arith, ints)), (omega (arith, ints), omega (arith, ints))),
+    (
+      Int,
+      refl,
+      node 2,
+      node 2,
+      refl,
+      pos 1,
+      pos 2,
+      pos 1,
+      pos 3,
+      tied_range (pos 1) (omega (arith, ints)) (omega (arith, ints)),
+      tied_range (pos 2) (omega (arith, ints)) (omega (arith, ints)),
+      widens (pos 1) (pos 2) (pos 3) (omega (arith, ints)) (omega (arith, ints)) (omega (arith, ints)),
+    ),
+  )
+
+  tied_narrow : Follows (over_nodes tied_result tied_got.1.joint) (In (node 1) (pos 0) (pos 9))
+  tied_narrow =
+      in_as (over_nodes tied_result tied_got.1.joint) (shifted {a = node 1} {b = node 2} (turned tied_tie) tied_wide) (omega (arith, ints)) (omega (arith, ints))
+
+  -- counters of 0 and 1, and of 9 and 10, meet it
+  pub least_true : (f : Atom) → Follows (alone tied_result) f → IsTrueAtom (two_values (pos 0) (pos 1)) f
+  least_true = entailed_holds (pos 0) (omega (arith, ints)) (omega (arith, ints)) tied_result refl tied_got.1
+
+  most_true : (f : Atom) → Follows (alone tied_result) f → IsTrueAtom (two_values (pos 9) (pos 10)) f
+  most_true = entailed_holds (pos 9) (omega (arith, ints)) (omega (arith, ints)) tied_result refl tied_got.1
+
+  pub first_counter : HasRange (pure_of tied_result) (node 1) (pos 0) (pos 9)
+  first_counter = record {
+    follows = (tied_got.1.same (In (node 1) (pos 0) (pos 9))).1 tied_narrow;
+    least = λ m k d. ((least_true (In (node 1) m k) d).0, (most_true (In (node 1) m k) d).1);
+  }
+
+  second_counter : HasRange (pure_of tied_result) (node 2) (pos 1) (pos 10)
+  second_counter = record {
+    follows = (tied_got.1.same (In (node 2) (pos 1) (pos 10))).1 tied_wide;
+    least = λ m k d. ((least_true (In (node 2) m k) d).0, (most_true (In (node 2) m k) d).1);
+  }
+
   pub tied_counters_join : TiedCountersJoin
-  tied_counters_join w =
-      let got = joint_there laws Int (tied (pos 1)) (tied (pos 2)) side_one side_two 3 marks in
-      let t = result_of tied_left tied_right tied_last got.0 in
-      let tie = says_joint 3 marks tied_last t got.1 (Eq (node 2) (node 1) (pos 1))
-      (((Int, inr refl, inr refl), (omega (arith, ints), omega (arith, ints))), (node 2, node 2, node 1, node 1, refl, refl, base (known.written 1 refl), base (known.written 1 refl))) in
-      let wide = says_joint 3 marks tied_last t got.1 (In (node 2) (pos 1) (pos 10)) (
-        ((Int, inr refl), (omega (arith, ints), omega (arith, ints)), (omega (arith, ints), omega (arith, ints))),
-        (
-          Int,
-          refl,
-          node 2,
-          node 2,
-          refl,
-          pos 1,
-          pos 2,
-          pos 1,
-          pos 3,
-          tied_range (pos 1) (omega (arith, ints)) (omega (arith, ints)),
-          tied_range (pos 2) (omega (arith, ints)) (omega (arith, ints)),
-          widens (pos 1) (pos 2) (pos 3) (omega (arith, ints)) (omega (arith, ints)) (omega (arith, ints)),
-        ),
-      ) in
-      let closed : Follows (over_nodes t got.1.joint) (In (node 1) (pos 0) (pos 9)) =
-      in_as (over_nodes t got.1.joint) (shifted {a = node 1} {b = node 2} (turned tie) wide) (omega (arith, ints)) (omega (arith, ints)) in
-      let least = entailed_holds (pos 0) (omega (arith, ints)) (omega (arith, ints)) t refl got.1 in
-      let most = entailed_holds (pos 9) (omega (arith, ints)) (omega (arith, ints)) t refl got.1 in (
-        t,
-        is_whole laws Int (tied (pos 1)) (tied (pos 2)) side_one side_two 3 marks w got.0 got.1,
-        inl ((got.1.same _).1 tie),
-        record { follows = (got.1.same _).1 closed; least = λ m k d. ((least (In (node 1) m k) d).0, (most (In (node 1) m k) d).1) },
-        record { follows = (got.1.same _).1 wide; least = λ m k d. ((least (In (node 2) m k) d).0, (most (In (node 2) m k) d).1) },
-      )
+  tied_counters_join w = (tied_result, tied_joins w, inl ((tied_got.1.same (Eq (node 2) (node 1) (pos 1))).1 tied_tie), first_counter, second_counter)
 
   -- pointers
   pointer_side : IsSide (known_of (two_kinds Ptr) pointers)

@@ -1,39 +1,25 @@
 -- What the naming of a node keeps of states, each step of a join keeps of both.
-use mathlib.Core.Path.{fun_ext}
-use Rattle.std.proofs.Common.{◌≡◌, List, [], ◌∷◌, Bool, true, false, Option, Some, None, map, slice_get, refl, ap, sym, ◌∙◌, subst}
-use Rattle.std.specs.Prelude.{◌&&◌, ◌||◌, Ok, Err, is_none, find, option_and_then, option_map, unwrap_or}
-use Rattle.std.specs.List.{list_all}
+use Rattle.std.proofs.Common.{◌≡◌, List, [], ◌∷◌, Bool, true, false, Option, Some, None, slice_get, refl, ap, subst}
+use Rattle.std.specs.Prelude.{◌&&◌, ◌||◌, is_none, option_and_then, option_map}
 use Rattle.std.specs.Option.{option_or, option_zip}
 use Rattle.mc_base.specs.declared.ids.EdgeId.{EdgeId}
 use Rattle.mc_base.specs.declared.ids.NodeId.{NodeId}
 use Rattle.mc_base.specs.declared.ids.PredId.{PredId}
 use Rattle.mc_base.specs.declared.plain.Kind.{Kind}
-use Rattle.mc_base.specs.declared.plain.VarInfo.{VarInfo}
 use Rattle.mc_flow.specs.declared.defs.rules.Def.{Def}
-use Rattle.mc_flow.specs.declared.defs.shapes.StructInfo.{StructInfo}
 use Rattle.mc_state.specs.declared.graph.edge.Edge.{Edge}
-use Rattle.mc_state.specs.declared.graph.edge.Edge.TheVariants.{Ind, Seg}
-use Rattle.mc_state.specs.Known.{Test}
-use Rattle.mc_state.specs.Named.{SegParts, IndParts, seg_of, ind_of}
-use Rattle.mc_state.specs.Premises.{Judged}
+use Rattle.mc_state.specs.Named.{seg_of, ind_of}
 use Rattle.mc_state.specs.declared.line.Side.{Side}
 use Rattle.mc_state.specs.declared.line.Side.TheVariants.{Left, Right}
 use Rattle.mc_state.specs.declared.line.JoinStep.{JoinStep}
 use Rattle.mc_state.specs.declared.line.JoinStep.TheVariants.{J1, J2, J3, J4, J5, J6, J7}
 use Rattle.mc_state.specs.declared.terms.Term.{Term}
-use Rattle.mc_state.specs.Fits.{IsWellMade}
-use Rattle.mc_state.specs.State.{State, next_node}
+use Rattle.mc_state.specs.State.{State}
 use Rattle.mc_state.specs.Terms.{plain}
-use Rattle.mc_rules_logic.specs.Fold.ChangeJudges.{naming_spare}
-use Rattle.mc_rules_logic.specs.Fold.JudgedLaws.{SpareIsJudged}
-use Rattle.mc_rules_logic.specs.Fold.MadeLaws.{SpareStaysMade}
-use Rattle.mc_cover.specs.First.{Choice, first_cover, first_seg_cover}
-use Rattle.mc_cover.specs.Guessed.{first_edge, guess, summary_of}
-use Rattle.mc_cover.specs.Terms.{equal_terms}
-use Rattle.mc_joins.specs.Joinings.{Joining, Pair, across, half, of_side, with_pairs, free_edges, edge_at, next_pair, begun}
-use Rattle.mc_joins.specs.Laws.{KnowsMade, StepsAreDetermined, StepsKeepMade, PrefixesAreDetermined}
-use Rattle.mc_joins.specs.Parts.{Basis, Part, Named, nodes_of_kind, only_state, spare_node, own_node, node_of_term, behind, nodes_of_terms, nodes_of_args, zeros, standing_args, guessed, with_partners, as_it_is, empty_seg, ind_part, folded_ind, ended_part, seg_part, folded_seg, guessed_seg}
-use Rattle.mc_joins.specs.Steps.{Ending, pairs_of, edge_for, joined, joined_from, are_blocks, are_inds, are_segs, edge_there, only_if, closing, may_end, uses_edge, six_with, six_ends, six_to, by_j6, is_seg_to, seven_ends, seven_with, seven_from, by_j7, endings, no_j6, no_j7, by_both, four_args, four_with, four_from, by_ind, are_unlike, guessed_ind, five_with, by_folds, step_at, after_step, after_steps}
+use Rattle.mc_cover.specs.First.{first_cover, first_seg_cover}
+use Rattle.mc_joins.specs.Joinings.{Joining, Pair, across, half, of_side, with_pairs, free_edges, edge_at, next_pair}
+use Rattle.mc_joins.specs.Parts.{Basis, Part, Named, spare_node, own_node, node_of_term, behind, nodes_of_terms, nodes_of_args, as_it_is, empty_seg, ind_part, folded_ind, ended_part, seg_part, folded_seg, guessed_seg}
+use Rattle.mc_joins.specs.Steps.{Ending, pairs_of, edge_for, joined, joined_from, are_blocks, are_inds, are_segs, edge_there, only_if, closing, may_end, uses_edge, six_with, six_ends, six_to, by_j6, is_seg_to, seven_ends, seven_with, seven_from, by_j7, no_j6, no_j7, by_both, four_args, four_with, four_from, by_ind, are_unlike, guessed_ind, five_with, by_folds, step_at, after_step, after_steps}
 
 -- ---- options
 

@@ -1,7 +1,7 @@
 -- Steps of joins keep states well made, and depend on what is entailed alone.
 use mathlib.Core.Path.{fun_ext}
 use Rattle.std.proofs.Common.{◌≡◌, List, [], ◌∷◌, Bool, true, false, Option, Some, None, map, slice_get, refl, ap, sym, ◌∙◌, subst}
-use Rattle.std.specs.Prelude.{◌&&◌, ◌||◌, Ok, Err, is_none, find, option_and_then, option_map, unwrap_or}
+use Rattle.std.specs.Prelude.{◌&&◌, Ok, Err, is_none, find, option_and_then, option_map, unwrap_or}
 use Rattle.std.specs.List.{list_all}
 use Rattle.std.specs.Option.{option_or, option_zip}
 use Rattle.mc_base.specs.declared.ids.EdgeId.{EdgeId}
@@ -31,11 +31,11 @@ use Rattle.mc_rules_logic.specs.Fold.MadeLaws.{SpareStaysMade}
 use Rattle.mc_cover.specs.First.{Choice, first_cover, first_seg_cover}
 use Rattle.mc_cover.specs.Guessed.{first_edge, guess, summary_of}
 use Rattle.mc_cover.specs.Terms.{equal_terms}
-use Rattle.mc_joins.specs.Joinings.{Joining, Pair, across, half, of_side, with_pairs, free_edges, edge_at, next_pair, begun}
+use Rattle.mc_joins.specs.Joinings.{Joining, Pair, across, half, of_side, free_edges, edge_at, next_pair, begun}
 use Rattle.mc_joins.specs.Laws.{KnowsMade, StepsAreDetermined, StepsKeepMade, PrefixesAreDetermined}
-use Rattle.mc_joins.specs.Parts.{Basis, Part, Named, nodes_of_kind, only_state, spare_node, own_node, node_of_term, behind, nodes_of_terms, nodes_of_args, zeros, standing_args, guessed, with_partners, as_it_is, empty_seg, ind_part, folded_ind, ended_part, seg_part, folded_seg, guessed_seg}
+use Rattle.mc_joins.specs.Parts.{Basis, Part, Named, nodes_of_kind, only_state, spare_node, node_of_term, behind, nodes_of_terms, nodes_of_args, zeros, standing_args, guessed, with_partners, as_it_is, ind_part, folded_ind, ended_part, seg_part, folded_seg, guessed_seg}
 use Rattle.mc_joins.proofs.Keeping.{bind_each, map_some, node_kept, args_kept, step_kept}
-use Rattle.mc_joins.specs.Steps.{Ending, pairs_of, edge_for, joined, joined_from, are_blocks, are_inds, are_segs, edge_there, only_if, closing, may_end, uses_edge, six_with, six_ends, six_to, by_j6, is_seg_to, seven_ends, seven_with, seven_from, by_j7, endings, no_j6, no_j7, by_both, four_args, four_with, four_from, by_ind, are_unlike, guessed_ind, five_with, by_folds, step_at, after_step, after_steps}
+use Rattle.mc_joins.specs.Steps.{Ending, joined_from, are_blocks, are_inds, are_segs, edge_there, only_if, closing, may_end, uses_edge, six_with, six_ends, six_to, by_j6, is_seg_to, seven_ends, seven_with, seven_from, by_j7, endings, no_j6, no_j7, by_both, four_args, four_with, four_from, by_ind, are_unlike, guessed_ind, five_with, by_folds, step_at, after_step, after_steps}
 
 -- ---- tests
 
