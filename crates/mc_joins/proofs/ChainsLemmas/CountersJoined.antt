@@ -1,11 +1,9 @@
 -- A C3 line by which two counters that are tied by an offset are widened.
-use Rattle.std.proofs.Common.{◌≡◌, ◌⊎◌, ◌≤◌, ℕ, zero, suc, ℤ, pos, ◌+ℤ◌, ◌≤ℤ◌, List, [], ◌∷◌, Option, Some, slice_get, refl, sym, ◌∙◌, ap, subst, inl, inr, arith}
+use Rattle.std.proofs.Common.{◌≡◌, ◌⊎◌, ◌≤◌, ℕ, zero, suc, ℤ, pos, ◌+ℤ◌, ◌≤ℤ◌, [], ◌∷◌, Some, refl, sym, ap, subst, inl, inr, arith}
 use Rattle.std.proofs.lemmas.Int.{ints}
 use Rattle.mc_base.specs.declared.ids.NodeId.{NodeId}
-use Rattle.mc_base.specs.declared.plain.Atom.{Atom}
 use Rattle.mc_base.specs.declared.plain.Atom.TheVariants.{Eq, Ne, In}
 use Rattle.mc_base.specs.declared.plain.Kind.TheVariants.{Int}
-use Rattle.mc_base.specs.Atoms.{IsTrueAtom}
 use Rattle.mc_base.specs.Nodes.{moved, null}
 use Rattle.mc_pure.specs.Derived as derived
 use Rattle.mc_pure.specs.Derived.{Follows, base}
@@ -13,7 +11,6 @@ use Rattle.mc_pure.specs.Examples.{node}
 use Rattle.mc_pure.specs.Pure as known
 use Rattle.mc_pure.specs.Pure.{IsNode}
 use Rattle.mc_state.specs.Facts.{IsFalse, IsTidy, CanMerge, AreEqual, Derives}
-use Rattle.mc_state.specs.State.{State}
 use Rattle.mc_joins.specs.Chains.Examples.{CountersAreJoined}
 use Rattle.mc_joins.specs.JointExamples.{two_kinds, two_known, tied}
 use Rattle.mc_joins.specs.Same.Same.{AreSameUnder}
