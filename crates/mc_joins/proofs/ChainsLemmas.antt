@@ -5,3 +5,4 @@ pub mod Judging
 pub mod AnewMade
 pub mod NewStates
 pub mod CountersJoined
+pub mod JointOracle

@@ -48,10 +48,10 @@ below_or : (a b : ℤ) → Either (a ≤ℤ b)
 below_or a b = grind (arith, ints)
 
 module _ (kinds : Kinds) where
-  has_or : (kind : Kind) (n : NodeId) → Either (HasKind kinds kind n)
+  pub has_or : (kind : Kind) (n : NodeId) → Either (HasKind kinds kind n)
   has_or kind n = one_or (n ≡ null) (kind_of kinds n ≡ Some kind) (decide n null) (kind_is (kind_of kinds n) kind)
 
-  some_kind : (D : Kind → Type 0) → ((kind : Kind) → Either (D kind)) → Either ((kind : Kind) × D kind)
+  pub some_kind : (D : Kind → Type 0) → ((kind : Kind) → Either (D kind)) → Either ((kind : Kind) × D kind)
   some_kind D dec = elim (dec Int) [
     | inl d ↦ inl (Int, d)
     | inr not_int ↦ elim (dec Ptr) [
@@ -114,7 +114,7 @@ all_or D dec (x ∷ xs) = elim (dec x) [
   ]
 ]
 
-if_or : (P Q : Type 0) → Either P → Either Q → Either (P → Q)
+pub if_or : (P Q : Type 0) → Either P → Either Q → Either (P → Q)
 if_or P Q (inr never) q = inl (λ p. absurd (never p))
 if_or P Q (inl p) (inl q) = inl (λ w. q)
 if_or P Q (inl p) (inr never) = inr (λ f. never (f p))

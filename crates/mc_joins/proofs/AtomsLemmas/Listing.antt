@@ -37,7 +37,7 @@ same_or a b = grind (arith, ints)
 number_less : (a b : ℕ) → Either (a < b)
 number_less a b = grind arith
 
-number_same : (a b : ℕ) → Either (a ≡ b)
+pub number_same : (a b : ℕ) → Either (a ≡ b)
 number_same a b = grind arith
 
 pub one_or : (P Q : Type 0) → Either P → Either Q → Either (P ⊎ Q)
