@@ -1,5 +1,5 @@
 -- The atoms of whole joins as a function.
-use Rattle.std.proofs.Common.{◌≡◌, ◌⊎◌, ◌<◌, ℕ, ℤ, pos, List, [], ◌∷◌, Bool, true, false, Some, refl, sym, ◌∙◌, ap, subst, inl, inr, arith}
+use Rattle.std.proofs.Common.{◌≡◌, ℕ, ℤ, pos, List, [], ◌∷◌, Bool, true, false, Some, refl, sym, ◌∙◌, ap, subst, inl, inr, arith}
 use Rattle.std.specs.List.{AllByRecursion}
 use Rattle.mc_base.specs.declared.ids.NodeId.{NodeId}
 use Rattle.mc_base.specs.declared.plain.Atom.{Atom}
@@ -8,10 +8,9 @@ use Rattle.mc_base.specs.declared.plain.VarInfo.{VarInfo}
 use Rattle.mc_base.specs.Nodes.{null}
 use Rattle.mc_flow.specs.declared.defs.rules.Def.{Def}
 use Rattle.mc_flow.specs.declared.defs.shapes.StructInfo.{StructInfo}
-use Rattle.mc_flow.specs.declared.graph.Flow.{Flow}
 use Rattle.mc_pure.specs.Derived.{apart}
 use Rattle.mc_pure.specs.Pure.{Kinds, HasKind}
-use Rattle.mc_pure_ops.specs.Join.Joint.{Pairs, AreJoinable, AreJointKinds}
+use Rattle.mc_pure_ops.specs.Join.Joint.{Pairs, AreJointKinds}
 use Rattle.mc_pure_ops.proofs.CanonLemmas.Nodes.{decide}
 use Rattle.mc_state.specs.Facts.{IsFalse}
 use Rattle.mc_state.specs.Fits.{IsWellMade}
@@ -22,7 +21,7 @@ use Rattle.mc_state.specs.Told.{KindIsTold}
 use Rattle.mc_state.specs.declared.line.JoinStep.{JoinStep}
 use Rattle.mc_kernel.proofs.OracleLemmas.Known.{made_rises, made_fits}
 use Rattle.mc_kernel.proofs.OracleLemmas.MadeOr.{made_or}
-use Rattle.mc_joins.specs.Chains.Laws.{IsWholeJoin, JointIsThere}
+use Rattle.mc_joins.specs.Chains.Laws.{JointIsThere}
 use Rattle.mc_joins.specs.Joinings.{Joining, Pair, begun}
 use Rattle.mc_joins.specs.Same.Laws.{FalseRenamed}
 use Rattle.mc_joins.specs.Laws.{KnowsMade}
