@@ -4,3 +4,5 @@ pub mod Places
 pub mod Judging
 pub mod AnewMade
 pub mod NewStates
+pub mod CountersJoined
+pub mod JointOracle

@@ -48,7 +48,8 @@ use Rattle.mc_joins.proofs.JointEdges.{Alike, same_pred, blocks_alike, inds_alik
 use Rattle.mc_joins.proofs.JointKinds.{OneKind, Proper, Listed, NoNull, no_null, with_more, node_kind, pair_kind, kinds_step, any_left, listed_on, itself}
 use Rattle.mc_joins.proofs.Members.{Has}
 use Rattle.mc_joins.proofs.NamedKinds.{Grow, Fits, have_grow, may_grow, fits_grow, find_some, args_named}
-use Rattle.mc_joins.proofs.Steady.{bind_some, map_some, zip_some, or_some, args_made}
+use Rattle.mc_joins.proofs.Keeping.{bind_some, map_some, zip_some, or_some}
+use Rattle.mc_joins.proofs.Steady.{args_made}
 
 -- ---- lists
 
@@ -745,7 +746,7 @@ module _ (defs : List Def) (vars : List VarInfo) (structs : List StructInfo) (le
       may_joint defs structs last.left.state.kinds last.right.state.kinds K ((null, null) ∷ i.rest) (node_kind last none i.rest i.proper) ks left.env right.env
       (may_grow left.kinds last.left.state.kinds i.left_grows ks left.env lm.fits_program.vars_fit) (may_grow right.kinds last.right.state.kinds i.right_grows ks right.env rm.fits_program.vars_fit)
       (subst (λ (ps : Pairs). AllByRecursion (Listed ps) (known_both left.env right.env)) i.front i.vars_listed) in
-      let well : AllByRecursion (IsWellFormed t.kinds) t.atoms = at_places (IsWellFormed t.kinds) t.atoms (λ f among. (atoms.join.sound f among).0) in
+      let well : AllByRecursion (IsWellFormed t.kinds) t.atoms = at_places (IsWellFormed t.kinds) t.atoms (λ f among. atoms.fit.written among.0 f among.1) in
       record {
         bounded = record {
           positive = subst (λ (n : ℕ). 0 < n) (sym next_is) (omega arith);

@@ -19,7 +19,8 @@ use Rattle.mc_flow.specs.declared.defs.rules.Def.{Def}
 use Rattle.mc_flow.specs.declared.defs.shapes.StructInfo.{StructInfo}
 use Rattle.mc_state.specs.Graph.Graph.{Edges, Graph, numbered}
 use Rattle.mc_pure_ops.specs.Join.Joint.{Pairs, IsLate, IsJointRange, IsOfBoth, sides}
-use Rattle.mc_pure.specs.Derived.{Follows}
+use Rattle.mc_pure.specs.Derived.{Follows, base}
+use Rattle.mc_pure.specs.Pure as pure
 use Rattle.mc_pure.specs.Pure.{Kinds, HasKind, kind_of}
 use Rattle.mc_state.specs.declared.line.Side.{Side}
 use Rattle.mc_state.specs.declared.line.Side.TheVariants.{Left, Right}
@@ -29,12 +30,13 @@ use Rattle.mc_state.specs.State.{State, pure_of}
 use Rattle.mc_joins.specs.Joinings.{Joining, Pair, half, of_side, begun}
 use Rattle.mc_joins.specs.Laws.{JoinsAreSound}
 use Rattle.mc_joins.specs.Steps.{known_for}
-use Rattle.mc_joins.specs.Whole.{AreJointAtoms, all_used, kinds_from, kinds_of_pairs, result_of}
+use Rattle.mc_joins.specs.Whole.{AreJointAtoms, over_nodes, all_used, kinds_from, kinds_of_pairs, result_of}
 use Rattle.mc_joins.proofs.JoinMade.{Inv, at_places, begun_inv}
 use Rattle.mc_joins.proofs.JointKinds.{NoNull, Proper, no_null, pair_kind, kinds_step}
 use Rattle.mc_joins.proofs.JointStands.{Respects, pick, may_long, vars_side}
 use Rattle.mc_joins.proofs.Regions.{star_numbered}
 use Rattle.mc_joins.proofs.SideParts.{SoundLaws}
+use Rattle.mc_kernel.proofs.Plain.{base_true}
 use Rattle.mc_joins.proofs.SideStands.{SideStands, all_stand, begun_stands}
 
 both_true : (a b : Bool) → (a && b) ≡ true → (a ≡ true) × (b ≡ true)
@@ -43,7 +45,7 @@ both_true false b e = absurd (cc e)
 
 -- ---- the values of nodes
 
-get_there : {X : Type 0} (xs : List X) (n : ℕ) (d x : X) → slice_get xs n ≡ Some x → get_or xs n d ≡ x
+pub get_there : {X : Type 0} (xs : List X) (n : ℕ) (d x : X) → slice_get xs n ≡ Some x → get_or xs n d ≡ x
 get_there [] n d x e = absurd (cc e)
 get_there (y ∷ xs) zero d x e = cc e
 get_there (y ∷ xs) (suc n) d x e = get_there xs n d x e
@@ -91,7 +93,7 @@ below_or : (a b : ℤ) → (a ≤ℤ b) ⊎ (b <ℤ a)
 below_or a b = grind (arith, ints)
 
 -- a joint range holds either side's
-range_holds : (kind : Kind) (round : ℕ) (thresholds : List ℤ) (x h y k lo hi : ℤ) → IsJointRange kind round thresholds x h y k lo hi
+pub range_holds : (kind : Kind) (round : ℕ) (thresholds : List ℤ) (x h y k lo hi : ℤ) → IsJointRange kind round thresholds x h y k lo hi
     → (lo ≤ℤ int_min x y) × (int_max h k ≤ℤ hi)
 range_holds kind round thresholds x h y k lo hi j = elim (late_or kind round) [
   | inl late ↦ let wide = j.wide late in (
@@ -174,6 +176,11 @@ module _ (laws : SoundLaws) (defs : List Def) (vars : List VarInfo) (structs : L
       let is = respects n.0 (o.2, o.3) o.4 in
       (subst (λ (z : ℤ). lo ≤ℤ z) (sym is) got.0, subst (λ (z : ℤ). z ≤ℤ hi) (sym is) got.1)
 
+  -- what the joint atoms say is true
+  joint_stand : (round : ℕ) (thresholds : List ℤ) (t : State) (atoms : AreJointAtoms round thresholds last t) → AllByRecursion (IsTrueAtom w) atoms.joint
+  joint_stand round thresholds t atoms =
+      at_places defs vars structs left right (IsTrueAtom w) atoms.joint (λ f among. atom_stands round thresholds atoms.join.left_list atoms.join.right_list t.kinds f (atoms.join.sound f among).1)
+
   -- ---- the whole state
 
   none_unused : (es : Edges) (part : Region) → (length es == 0) ≡ true → EdgesMeet defs st.v es part → IsEmpty part
@@ -207,14 +214,18 @@ module _ (laws : SoundLaws) (defs : List Def) (vars : List VarInfo) (structs : L
       let whole_is : t.whole ≡ (left.whole && right.whole && all_used last) = ap (λ (s : State). s.whole) gives in
       let front : slice_get last.pairs 0 ≡ Some (null, null) = ap (λ (ps : Pairs). slice_get ps 0) i.front in
       let whole = laws.splits.right region st.held st.rest st.used st.left st.split st.parts in
+      let null_true : w 0 ≡ pos 0 = respects 0 (null, null) front ∙ ap (λ (n : NodeId). st.v n.0) (null_side side) ∙ st.stands.null in
+      let kinds_true : AllByRecursion (λ (k : NodeId × Kind). InKind k.1 (w k.0.0)) t.kinds =
+      subst (λ (ks : Kinds). AllByRecursion (λ (k : NodeId × Kind). InKind k.1 (w k.0.0)) ks) (sym kinds_are)
+      (kinds_stand 1 i.rest i.proper (λ m p e.
+      let next : suc m ≡ 1 + m = omega arith in
+      let there : slice_get last.pairs (suc m) ≡ Some p = ap (λ (ps : Pairs). slice_get ps (suc m)) i.front ∙ e in
+      subst (λ (x : ℕ). w x ≡ st.v (of_side side p).0) next (respects (suc m) p there))) in
       record {
-        null = respects 0 (null, null) front ∙ ap (λ (n : NodeId). st.v n.0) (null_side side) ∙ st.stands.null;
-        kinds = subst (λ (ks : Kinds). AllByRecursion (λ (k : NodeId × Kind). InKind k.1 (w k.0.0)) ks) (sym kinds_are)
-            (kinds_stand 1 i.rest i.proper (λ m p e.
-            let next : suc m ≡ 1 + m = omega arith in
-            let there : slice_get last.pairs (suc m) ≡ Some p = ap (λ (ps : Pairs). slice_get ps (suc m)) i.front ∙ e in
-            subst (λ (x : ℕ). w x ≡ st.v (of_side side p).0) next (respects (suc m) p there)));
-        atoms = at_places defs vars structs left right (IsTrueAtom w) t.atoms (λ f among. atom_stands round thresholds atoms.join.left_list atoms.join.right_list t.kinds f (atoms.join.sound f among).1);
+        null = null_true;
+        kinds = kinds_true;
+        atoms = at_places defs vars structs left right (IsTrueAtom w) t.atoms
+            (λ f among. laws.entailed (over_nodes t atoms.joint) w (base_true w t.kinds atoms.joint null_true kinds_true (joint_stand round thresholds t atoms)) f (inl ((atoms.same f).0 (base (pure.written among.0 among.1)))));
         vars = subst (λ (ns : List (Option NodeId)). VarsMeet w ns values) (sym env_is)
             (vars_side side last.pairs st.v w respects left.env right.env values
             (may_long left.kinds right.kinds _ left.env right.env lm.fits_program.vars_fit rm.fits_program.vars_fit) i.vars_listed

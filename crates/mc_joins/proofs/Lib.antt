@@ -2,6 +2,7 @@ mod Members
 mod Stuck
 mod Once
 mod Counter
+mod Keeping
 mod Steady
 mod NamedKinds
 mod JointKinds
@@ -14,8 +15,10 @@ mod SideParts
 mod SideStands
 mod JoinsStand
 mod ExampleStands
+mod JointExamples
 pub mod AlikeLemmas
 pub mod AnewLemmas
+pub mod AtomsLemmas
 pub mod ChainsLemmas
 pub mod RenameLemmas
 pub mod SameLemmas

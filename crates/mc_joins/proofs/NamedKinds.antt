@@ -28,7 +28,8 @@ use Rattle.mc_cover.specs.Terms.{equal_terms}
 use Rattle.mc_joins.specs.Laws.{KnowsMade}
 use Rattle.mc_joins.specs.Parts.{Basis, Named, nodes_of_kind, only_state, spare_node, own_node, node_of_term, behind, nodes_of_terms, nodes_of_args}
 use Rattle.mc_joins.proofs.Members.{Has}
-use Rattle.mc_joins.proofs.Steady.{bind_some, map_some, or_some, node_made}
+use Rattle.mc_joins.proofs.Keeping.{bind_some, map_some, or_some}
+use Rattle.mc_joins.proofs.Steady.{node_made}
 
 -- ---- what fits goes on to fit
 

@@ -33,7 +33,8 @@ use Rattle.mc_cover.specs.Terms.{equal_terms}
 use Rattle.mc_joins.specs.Laws.{KnowsMade}
 use Rattle.mc_joins.specs.Parts.{Basis, Named, nodes_of_kind, only_state, spare_node, own_node, node_of_term, behind, nodes_of_terms, nodes_of_args}
 use Rattle.mc_joins.proofs.NamedKinds.{find_some}
-use Rattle.mc_joins.proofs.Steady.{bind_some, map_some, or_some, node_made}
+use Rattle.mc_joins.proofs.Keeping.{bind_some, map_some, or_some}
+use Rattle.mc_joins.proofs.Steady.{node_made}
 
 -- nodes are named for terms in a state: what stands for the state goes on to stand, and the nodes are the terms
 pub record NameStands (defs : List Def) (values : List (Option ℤ)) (region : Region) (s : State) (ts : List Term) (n : Named) : Type 0 where

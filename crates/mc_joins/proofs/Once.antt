@@ -14,7 +14,7 @@ use Rattle.mc_rules_logic.proofs.FoldLemmas.Ordered.{same_listed}
 use Rattle.mc_rules_logic.proofs.FoldLemmas.WrittenOnce.{one_written}
 use Rattle.mc_joins.specs.Joinings.{Joining}
 use Rattle.mc_joins.specs.Laws.{JoinsAreDetermined}
-use Rattle.mc_joins.specs.Whole.{AreJointAtoms, result_of}
+use Rattle.mc_joins.specs.Whole.{AreJointAtoms, over_nodes, result_of}
 
 -- what is known has one canonical list
 one_canonical_of : (p : Pure) (xs ys : List Atom) → IsListOf p xs → IsListOf p ys → xs ≡ ys
@@ -65,7 +65,11 @@ module _ (more : FollowsFromMore) where
       let kinds : t.kinds ≡ u.kinds = ap (λ (s : State). s.kinds) shape ∙ sym (ap (λ (s : State). s.kinds) b.gives) in
       let l = pure_of b.last.left.state in
       let r = pure_of b.last.right.state in
-      let atoms : t.atoms ≡ u.atoms =
-      one_written (alone t) (alone u) kinds refl (follows_too l r b.last.pairs round thresholds (alone t) (alone u) of_a.join b.atoms.join kinds)
-      (follows_too l r b.last.pairs round thresholds (alone u) (alone t) b.atoms.join of_a.join (sym kinds)) t.atoms u.atoms of_a.listed b.atoms.listed in
+      let p = over_nodes t of_a.joint in
+      let q = over_nodes u b.atoms.joint in
+      let there : (f : Atom) → Follows (alone t) f → Follows (alone u) f =
+      λ f h. (b.atoms.same f).1 (follows_too l r b.last.pairs round thresholds p q of_a.join b.atoms.join kinds f ((of_a.same f).0 h)) in
+      let back : (f : Atom) → Follows (alone u) f → Follows (alone t) f =
+      λ f h. (of_a.same f).1 (follows_too l r b.last.pairs round thresholds q p b.atoms.join of_a.join (sym kinds) f ((b.atoms.same f).0 h)) in
+      let atoms : t.atoms ≡ u.atoms = one_written (alone t) (alone u) kinds refl there back t.atoms u.atoms of_a.listed b.atoms.listed in
       shape ∙ ap (result_of left right b.last) atoms ∙ sym b.gives

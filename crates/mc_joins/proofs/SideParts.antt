@@ -19,6 +19,7 @@ use Rattle.mc_flow.specs.Defs.Meaning.{Sat}
 use Rattle.mc_state.specs.declared.graph.edge.Edge.{Edge}
 use Rattle.mc_state.specs.declared.graph.edge.Edge.TheVariants.{Ind, Seg}
 use Rattle.mc_state.specs.Graph.Graph.{Edges, Picks, IdsAscend}
+use Rattle.mc_pure.specs.Laws as pure
 use Rattle.mc_pure.specs.Pure.{HasKind}
 use Rattle.mc_state.specs.Known.{Test}
 use Rattle.mc_state.specs.Told.{PicksAreNamed, KindIsTold}
@@ -44,7 +45,8 @@ use Rattle.mc_joins.proofs.JoinMade.{Inv, PartBy, as_is, of_none, by_fold, by_se
 use Rattle.mc_joins.proofs.JointStands.{same_sat, same_seg, edges_agree}
 use Rattle.mc_joins.proofs.NamedStand.{args_stand}
 use Rattle.mc_joins.proofs.Regions.{SplitLaws, nowhere_empty, none_left, parted, merged, star_take, filter_ascend, found_with, others_passing, looked}
-use Rattle.mc_joins.proofs.Steady.{bind_some, map_some, args_made}
+use Rattle.mc_joins.proofs.Keeping.{bind_some, map_some}
+use Rattle.mc_joins.proofs.Steady.{args_made}
 
 -- the laws on which it rests
 pub record SoundLaws : Type 0 where
@@ -55,6 +57,7 @@ pub record SoundLaws : Type 0 where
   pub new_kinds : NewNodesHaveKinds
   pub below : NodesAreBelow
   pub truth : DerivedIsTrue
+  pub entailed : pure.DerivedIsTrue
   pub predicate : CoverMakesPredicate
   pub segment : SegCoverMakesSegment
   pub told : KindIsTold

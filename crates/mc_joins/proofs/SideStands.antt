@@ -33,7 +33,7 @@ use Rattle.mc_joins.proofs.JointKinds.{OneKind, Listed, any_left, itself}
 use Rattle.mc_joins.proofs.JointStands.{Respects, pick, edge_stands}
 use Rattle.mc_joins.proofs.Regions.{none_left, star_one, star_append, others_ascend, nowhere_empty}
 use Rattle.mc_joins.proofs.SideParts.{SoundLaws, part_stands}
-use Rattle.mc_joins.proofs.Steady.{bind_some, map_some}
+use Rattle.mc_joins.proofs.Keeping.{bind_some, map_some}
 
 -- what stands for a side: the edges of the result have a part of the region by each valuation that gives each node of it
 -- the value of its pair's node of the side, and the unused edges have another; nothing is left where the first state

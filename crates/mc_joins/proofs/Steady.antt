@@ -1,7 +1,7 @@
 -- Steps of joins keep states well made, and depend on what is entailed alone.
 use mathlib.Core.Path.{fun_ext}
 use Rattle.std.proofs.Common.{◌≡◌, List, [], ◌∷◌, Bool, true, false, Option, Some, None, map, slice_get, refl, ap, sym, ◌∙◌, subst}
-use Rattle.std.specs.Prelude.{◌&&◌, ◌||◌, Ok, Err, is_none, find, option_and_then, option_map, unwrap_or}
+use Rattle.std.specs.Prelude.{◌&&◌, Ok, Err, is_none, find, option_and_then, option_map, unwrap_or}
 use Rattle.std.specs.List.{list_all}
 use Rattle.std.specs.Option.{option_or, option_zip}
 use Rattle.mc_base.specs.declared.ids.EdgeId.{EdgeId}
@@ -24,45 +24,20 @@ use Rattle.mc_state.specs.declared.terms.Term.{Term}
 use Rattle.mc_state.specs.Fits.{IsWellMade}
 use Rattle.mc_state.specs.State.{State, next_node}
 use Rattle.mc_state.specs.Terms.{plain}
+use Rattle.mc_rules_logic.specs.Fold.Changed.{NamesSpare}
 use Rattle.mc_rules_logic.specs.Fold.ChangeJudges.{naming_spare}
 use Rattle.mc_rules_logic.specs.Fold.JudgedLaws.{SpareIsJudged}
 use Rattle.mc_rules_logic.specs.Fold.MadeLaws.{SpareStaysMade}
 use Rattle.mc_cover.specs.First.{Choice, first_cover, first_seg_cover}
 use Rattle.mc_cover.specs.Guessed.{first_edge, guess, summary_of}
 use Rattle.mc_cover.specs.Terms.{equal_terms}
-use Rattle.mc_joins.specs.Joinings.{Joining, Pair, across, half, of_side, with_pairs, free_edges, edge_at, next_pair, begun}
+use Rattle.mc_joins.specs.Joinings.{Joining, Pair, across, half, of_side, free_edges, edge_at, next_pair, begun}
 use Rattle.mc_joins.specs.Laws.{KnowsMade, StepsAreDetermined, StepsKeepMade, PrefixesAreDetermined}
-use Rattle.mc_joins.specs.Parts.{Basis, Part, Named, nodes_of_kind, only_state, spare_node, own_node, node_of_term, behind, nodes_of_terms, nodes_of_args, zeros, standing_args, guessed, with_partners, as_it_is, empty_seg, ind_part, folded_ind, ended_part, seg_part, folded_seg, guessed_seg}
-use Rattle.mc_joins.specs.Steps.{Ending, pairs_of, edge_for, joined, joined_from, are_blocks, are_inds, are_segs, edge_there, only_if, closing, may_end, uses_edge, six_with, six_ends, six_to, by_j6, is_seg_to, seven_ends, seven_with, seven_from, by_j7, endings, no_j6, no_j7, by_both, four_args, four_with, four_from, by_ind, are_unlike, guessed_ind, five_with, by_folds, step_at, after_step, after_steps}
+use Rattle.mc_joins.specs.Parts.{Basis, Part, Named, nodes_of_kind, only_state, spare_node, node_of_term, behind, nodes_of_terms, nodes_of_args, zeros, standing_args, guessed, with_partners, as_it_is, ind_part, folded_ind, ended_part, seg_part, folded_seg, guessed_seg}
+use Rattle.mc_joins.proofs.Keeping.{bind_each, map_some, node_kept, args_kept, step_kept}
+use Rattle.mc_joins.specs.Steps.{Ending, joined_from, are_blocks, are_inds, are_segs, edge_there, only_if, closing, may_end, uses_edge, six_with, six_ends, six_to, by_j6, is_seg_to, seven_ends, seven_with, seven_from, by_j7, endings, no_j6, no_j7, by_both, four_args, four_with, four_from, by_ind, are_unlike, guessed_ind, five_with, by_folds, step_at, after_step, after_steps}
 
--- ---- options
-
-module _ {X Y : Type 0} where
-  pub bind_some : (f : X → Option Y) (o : Option X) (y : Y) → option_and_then f o ≡ Some y → (x : X) × (o ≡ Some x) × (f x ≡ Some y)
-  bind_some f None y e = absurd (cc e)
-  bind_some f (Some x) y e = (x, refl, e)
-
-  pub map_some : (f : X → Y) (o : Option X) (y : Y) → option_map f o ≡ Some y → (x : X) × (o ≡ Some x) × (f x ≡ y)
-  map_some f None y e = absurd (cc e)
-  map_some f (Some x) y e = (x, refl, cc e)
-
-  bind_each : (f g : X → Option Y) (o : Option X) → ((x : X) → o ≡ Some x → f x ≡ g x) → option_and_then f o ≡ option_and_then g o
-  bind_each f g None h = refl
-  bind_each f g (Some x) h = h x refl
-
-  pub zip_some : (o : Option X) (p : Option Y) (xy : X × Y) → option_zip o p ≡ Some xy → (o ≡ Some xy.0) × (p ≡ Some xy.1)
-  zip_some None p xy e = absurd (cc e)
-  zip_some (Some x) None xy e = absurd (cc e)
-  zip_some (Some x) (Some y) xy e =
-      let same : ◌≡◌ {A = X × Y} (x, y) xy = cc e in (ap (λ (z : X × Y). Some z.0) same, ap (λ (z : X × Y). Some z.1) same)
-
-pub only_some : {X : Type 0} (b : Bool) (o : Option X) (x : X) → only_if b o ≡ Some x → o ≡ Some x
-only_some true o x e = e
-only_some false o x e = absurd (cc e)
-
-pub or_some : {X : Type 0} (P : X → Type 0) (o p : Option X) (x : X) → (o ≡ Some x → P x) → (p ≡ Some x → P x) → option_or o p ≡ Some x → P x
-or_some P None p x f g e = g e
-or_some P (Some y) p x f g e = f e
+-- ---- tests
 
 all_each : {X : Type 0} (f g : X → Bool) (xs : List X) → ((x : X) → f x ≡ g x) → list_all f xs ≡ list_all g xs
 all_each f g [] h = refl
@@ -83,128 +58,32 @@ module _ (judged : SpareIsJudged) (stays : SpareStaysMade) (defs : List Def) (va
     abbrev basis : Basis
     basis = record { know = know; defs = defs }
 
-    spare_made : (s : State) (kind : Kind) (t : Term) (n : Named) → Made s → spare_node basis s kind t ≡ Some n → Made n.state
-    spare_made s kind t n made e = at (naming_spare (know s) t.node t.add kind s) refl e
+    -- a new node is named by L8
+    pub spare_names : (s : State) (kind : Kind) (t : Term) (n : Named) → Made s → spare_node basis s kind t ≡ Some n → NamesSpare t.node t.add kind s (n.state ∷ [])
+    spare_names s kind t n made e = at (naming_spare (know s) t.node t.add kind s) refl e
       where
         at : (o : Judged (List State)) → naming_spare (know s) t.node t.add kind s ≡ o
-            → option_map (λ (after : State). let m : Named = record { state = after; nodes = next_node s ∷ [] } in m) (only_state o) ≡ Some n → Made n.state
+            → option_map (λ (after : State). let m : Named = record { state = after; nodes = next_node s ∷ [] } in m) (only_state o) ≡ Some n → NamesSpare t.node t.add kind s (n.state ∷ [])
         at (Ok []) is e = absurd (cc e)
         at (Ok (u ∷ [])) is e =
             let got = map_some (λ (after : State). let m : Named = record { state = after; nodes = next_node s ∷ [] } in m) (Some u) n e in
             let same : got.0 ≡ u = cc (got.1) in
-            let states = stays defs vars structs t.node t.add kind s (u ∷ []) ((judged (know s) t.node t.add kind s (tells s made) (u ∷ [])).0 is) made in
-            subst Made (sym same ∙ ap (λ (m : Named). m.state) got.2) states.0
+            let named = (judged (know s) t.node t.add kind s (tells s made) (u ∷ [])).0 is in
+            subst (λ (x : State). NamesSpare t.node t.add kind s (x ∷ [])) (sym same ∙ ap (λ (m : Named). m.state) got.2) named
         at (Ok (u ∷ x ∷ us)) is e = absurd (cc e)
         at (Err k) is e = absurd (cc e)
 
-    pub node_made : (s : State) (kind : Kind) (t : Term) (n : Named) → Made s → node_of_term basis s kind t ≡ Some n → Made n.state
-    node_made s kind t n made e =
-        or_some (λ (m : Named). Made m.state) (option_map (λ (m : NodeId). let r : Named = record { state = s; nodes = m ∷ [] } in r) (own_node basis s kind t)) (spare_node basis s kind t) n
-        (λ f. let got = map_some (λ (m : NodeId). let r : Named = record { state = s; nodes = m ∷ [] } in r) (own_node basis s kind t) n f in subst Made (ap (λ (m : Named). m.state) got.2) made)
-        (spare_made s kind t n made) e
+    spare_made : (s : State) (kind : Kind) (t : Term) (n : Named) → Made s → spare_node basis s kind t ≡ Some n → Made n.state
+    spare_made s kind t n made e = (stays defs vars structs t.node t.add kind s (n.state ∷ []) (spare_names s kind t n made e) made).0
 
-    terms_made : (s : State) (kinds : List Kind) (ts : List Term) (n : Named) → Made s → nodes_of_terms basis s kinds ts ≡ Some n → Made n.state
-    terms_made s [] [] n made e =
-        let empty : Named = record { state = s; nodes = [] } in
-        let same : empty ≡ n = cc e in
-        subst (λ (m : Named). Made m.state) same made
-    terms_made s [] (t ∷ ts) n made e = absurd (cc e)
-    terms_made s (kind ∷ kinds) [] n made e = absurd (cc e)
-    terms_made s (kind ∷ kinds) (t ∷ ts) n made e =
-        let first = bind_some (λ (first : Named). option_map (behind first.nodes) (nodes_of_terms basis first.state kinds ts)) (node_of_term basis s kind t) n e in
-        let rest = map_some (behind first.0.nodes) (nodes_of_terms basis first.0.state kinds ts) n first.2 in
-        subst Made (ap (λ (m : Named). m.state) rest.2) (terms_made first.0.state kinds ts rest.0 (node_made s kind t first.0 made first.1) rest.1)
+    pub node_made : (s : State) (kind : Kind) (t : Term) (n : Named) → Made s → node_of_term basis s kind t ≡ Some n → Made n.state
+    node_made = node_kept basis Made spare_made
 
     pub args_made : (pred : PredId) (s : State) (args : List Term) (n : Named) → Made s → nodes_of_args basis pred s args ≡ Some n → Made n.state
-    args_made pred s args n made e =
-        let d = bind_some (λ (def : Def). nodes_of_terms basis s def.params args) (slice_get defs pred.0) n e in terms_made s d.0.params args n made d.2
+    args_made = args_kept basis Made spare_made
 
-    module _ (j : Joining) (left_made : Made j.left.state) (right_made : Made j.right.state) where
-      half_made : (side : Side) → Made (half j side).state
-      half_made Left = left_made
-      half_made Right = right_made
-
-      ind_made : (side : Side) (p : Pair) (pred : PredId) (args : List Term) (part : Part) → folded_ind basis j side p pred args ≡ Some part → Made part.state
-      ind_made side p pred args part e =
-          let c = bind_some (ind_part basis j side p pred args) (first_cover (know (half j side).state) defs pred (plain (of_side side p)) args (free_edges j side p)) part e in
-          let n = map_some _ (nodes_of_args basis pred (half j side).state args) part c.2 in
-          subst Made (ap (λ (x : Part). x.state) n.2) (args_made pred (half j side).state args n.0 (half_made side) n.1)
-
-      seg_made : (side : Side) (p : Pair) (pred : PredId) (args : List Term) («end» : NodeId) (ends : List Term) (part : Part)
-          → folded_seg basis j side p pred args end ends ≡ Some part → Made part.state
-      seg_made side p pred args «end» ends part e =
-          let c = bind_some (seg_part basis j side p pred args end ends) (first_seg_cover (know (half j side).state) defs pred (plain (of_side side p)) args (plain end) ends (free_edges j side p)) part e in
-          let first = bind_some (ended_part basis side p pred end ends c.0.used) (nodes_of_args basis pred (half j side).state args) part c.2 in
-          let last = map_some _ (nodes_of_args basis pred first.0.state ends) part first.2 in
-          subst Made (ap (λ (x : Part). x.state) last.2) (args_made pred first.0.state ends last.0 (args_made pred (half j side).state args first.0 (half_made side) first.1) last.1)
-
-      -- both states of a join are well made
-      abbrev BothMade : Joining → Type 0
-      BothMade k = Made k.left.state × Made k.right.state
-
-      joined_made : (l r : Part) (k : Joining) → Made l.state → Made r.state → joined j l r ≡ Some k → BothMade k
-      joined_made l r k lm rm e =
-          let got = map_some _ (edge_for (with_pairs j.pairs (pairs_of l.edge r.edge)) l.edge r.edge) k e in
-          (subst Made (ap (λ (x : Joining). x.left.state) got.2) lm, subst Made (ap (λ (x : Joining). x.right.state) got.2) rm)
-
-      from_made : (side : Side) (mine theirs : Part) (k : Joining) → Made mine.state → Made theirs.state → joined_from j side mine theirs ≡ Some k → BothMade k
-      from_made Left mine theirs k mm tm e = joined_made mine theirs k mm tm e
-      from_made Right mine theirs k mm tm e = joined_made theirs mine k tm mm e
-
-      six_made : (p : Pair) (e : Ending) (k : Joining) → by_j6 basis j p e ≡ Some k → BothMade k
-      six_made p e k is =
-          let q = bind_some (six_to basis j p e) (slice_get j.pairs e.place) k is in
-          let part = bind_some (six_with basis j p e) (guessed_seg basis j e.side p e.pred (of_side e.side q.0) (six_ends basis j e q.0)) k (only_some (may_end e.side p q.0) _ k q.2) in
-          let done = map_some (closing (across e.side) p) (joined_from j e.side part.0 (empty_seg basis (half j (across e.side)) e.pred (of_side (across e.side) p))) k (only_some (uses_edge part.0) _ k part.2) in
-          let both = from_made e.side part.0 (empty_seg basis (half j (across e.side)) e.pred (of_side (across e.side) p)) done.0
-          (seg_made e.side p e.pred _ (of_side e.side q.0) (six_ends basis j e q.0) part.0 part.1) (half_made (across e.side)) done.1 in
-          (subst Made (ap (λ (x : Joining). x.left.state) done.2) both.0, subst Made (ap (λ (x : Joining). x.right.state) done.2) both.1)
-
-      seven_made : (p : Pair) (e : Ending) (k : Joining) → by_j7 basis j p e ≡ Some k → BothMade k
-      seven_made p e k is =
-          let q = bind_some (λ (q : Pair). option_and_then (seven_from basis j p e q) (edge_at j (across e.side) p)) (slice_get j.pairs e.place) k is in
-          let found = bind_some (seven_from basis j p e q.0) (edge_at j (across e.side) p) k q.2 in
-          let s = bind_some (seven_with basis j p e q.0 found.0) (seg_of (Some found.0.1)) k found.2 in
-          let part = bind_some (λ (mine : Part). joined_from j e.side mine (as_it_is (half j (across e.side)) found.0))
-          (guessed_seg basis j e.side p e.pred (of_side e.side q.0) (seven_ends basis j e q.0 s.0)) k (only_some (is_seg_to j e q.0 s.0) _ k s.2) in
-          from_made e.side part.0 (as_it_is (half j (across e.side)) found.0) k (seg_made e.side p e.pred _ (of_side e.side q.0) (seven_ends basis j e q.0 s.0) part.0 part.1) (half_made (across e.side)) part.2
-
-      both_made : (of_form : Edge → Edge → Bool) (p : Pair) (k : Joining) → by_both of_form j p ≡ Some k → BothMade k
-      both_made of_form p k is =
-          let both = bind_some (λ (both : (EdgeId × Edge) × (EdgeId × Edge)). only_if (of_form both.0.1 both.1.1) (joined j (as_it_is j.left both.0) (as_it_is j.right both.1)))
-          (option_zip (edge_at j Left p) (edge_at j Right p)) k is in
-          joined_made (as_it_is j.left both.0.0) (as_it_is j.right both.0.1) k left_made right_made (only_some (of_form both.0.0.1 both.0.1.1) _ k both.2)
-
-      four_made : (p : Pair) (pred : PredId) (side : Side) (k : Joining) → by_ind basis j p pred side ≡ Some k → BothMade k
-      four_made p pred side k is =
-          let found = bind_some (four_from basis j p pred side) (edge_at j side p) k is in
-          let i = bind_some (four_with basis j p pred side found.0) (ind_of pred (Some found.0.1)) k found.2 in
-          let part = bind_some (λ (theirs : Part). joined_from j side (as_it_is (half j side) found.0) theirs) (folded_ind basis j (across side) p pred (four_args basis j p pred side i.0)) k
-          (only_some (is_none (ind_of pred (edge_there j (across side) p))) _ k i.2) in
-          from_made side (as_it_is (half j side) found.0) part.0 k (half_made side) (ind_made (across side) p pred (four_args basis j p pred side i.0) part.0 part.1) part.2
-
-      five_made : (p : Pair) (pred : PredId) (k : Joining) → by_folds basis j p pred ≡ Some k → BothMade k
-      five_made p pred k is =
-          let both = bind_some (five_with j) (option_zip (guessed_ind basis j p pred Left) (guessed_ind basis j p pred Right)) k
-          (only_some (are_unlike (edge_there j Left p) (edge_there j Right p)) _ k is) in
-          let parts = zip_some (guessed_ind basis j p pred Left) (guessed_ind basis j p pred Right) both.0 both.1 in
-          joined_made both.0.0 both.0.1 k (ind_made Left p pred _ both.0.0 parts.0) (ind_made Right p pred _ both.0.1 parts.1)
-          (only_some (uses_edge both.0.0 || uses_edge both.0.1) _ k both.2)
-
-      at_made : (p : Pair) (step : JoinStep) (k : Joining) → step_at basis j p step ≡ Some k → BothMade k
-      at_made p J1 k is = both_made are_blocks p k (only_some (no_j6 basis j p) _ k is)
-      at_made p J2 k is = both_made are_inds p k (only_some (no_j6 basis j p) _ k is)
-      at_made p J3 k is = both_made are_segs p k (only_some (no_j6 basis j p && no_j7 basis j p) _ k is)
-      at_made p (J4 pred) k is =
-          or_some BothMade (by_ind basis j p pred Left) (by_ind basis j p pred Right) k (four_made p pred Left k) (four_made p pred Right k)
-          (only_some (no_j6 basis j p && no_j7 basis j p) _ k is)
-      at_made p (J5 pred) k is = five_made p pred k (only_some (no_j6 basis j p && no_j7 basis j p) _ k is)
-      at_made p (J6 pred side place) k is = six_made p (record { pred = pred; side = side; place = place }) k is
-      at_made p (J7 pred side place) k is =
-          seven_made p (record { pred = pred; side = side; place = place }) k (only_some (no_j6 basis j p) _ k is)
-
-      step_made : (step : JoinStep) (k : Joining) → after_step basis j step ≡ Some k → BothMade k
-      step_made step k is = let p = bind_some (λ (p : Pair). step_at basis j p step) (next_pair j) k is in at_made p.0 step k p.2
+    step_made : (j : Joining) → Made j.left.state → Made j.right.state → (step : JoinStep) (k : Joining) → after_step basis j step ≡ Some k → Made k.left.state × Made k.right.state
+    step_made = step_kept basis Made spare_made
 
   -- ---- what is entailed decides
 

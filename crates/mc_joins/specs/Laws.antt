@@ -1,5 +1,6 @@
 -- What holds of the steps of joins.
 use Rattle.std.specs.Prelude.{◌≡◌, ◌↔◌, ℕ, ℤ, true, is_some, Option, Some, None, List}
+use Rattle.mc_base.specs.declared.plain.Atom.{Atom}
 use Rattle.mc_base.specs.declared.plain.VarInfo.{VarInfo}
 use Rattle.mc_flow.specs.Heap.Heap.{Region, IsAtAddresses}
 use Rattle.mc_flow.specs.Defs.Conditions.{IsDefs}
@@ -7,13 +8,14 @@ use Rattle.mc_flow.specs.declared.defs.rules.Def.{Def}
 use Rattle.mc_flow.specs.declared.defs.shapes.StructInfo.{StructInfo}
 use Rattle.mc_state.specs.Known.{Test, Tells}
 use Rattle.mc_state.specs.declared.line.JoinStep.{JoinStep}
+use Rattle.mc_state.specs.Facts.{IsFalse}
 use Rattle.mc_state.specs.Fits.{IsWellMade}
 use Rattle.mc_state.specs.Stands.{Stands}
 use Rattle.mc_state.specs.State.{State}
 use Rattle.mc_joins.specs.Joinings.{Joining, begun, next_pair}
 use Rattle.mc_joins.specs.Parts.{Basis}
 use Rattle.mc_joins.specs.Steps.{after_step, after_steps, is_stuck}
-use Rattle.mc_joins.specs.Whole.{Joins}
+use Rattle.mc_joins.specs.Whole.{AreJointAtoms, Joins, result_of}
 
 -- a join is stuck exactly where there is a next pair and no step at all applies
 abbrev pub StuckIsEvery : Type 0
@@ -59,6 +61,17 @@ abbrev pub JoinsAreDetermined : Type 0
 JoinsAreDetermined =
     (w : Basis) (round : ℕ) (thresholds : List ℤ) (left right : State) (steps : List JoinStep) (t u : State)
     → Joins w round thresholds left right steps t → Joins w round thresholds left right steps u → t ≡ u
+
+-- steps that come to the end of a join of well-made states that are not false are a whole join: whatever the pass and the
+-- thresholds, there are the atoms of what it gives
+abbrev pub JoinsAreThere : Type 0
+JoinsAreThere =
+    (defs : List Def) (vars : List VarInfo) (structs : List StructInfo) (know : State → Test) (round : ℕ) (thresholds : List ℤ)
+    (left right : State) (steps : List JoinStep) (last : Joining)
+    → KnowsMade defs vars structs know → IsWellMade defs vars structs left → IsWellMade defs vars structs right
+    → (IsFalse left → ⊥) → (IsFalse right → ⊥)
+    → after_steps (record { know = know; defs = defs }) (begun left right) steps ≡ Some last → next_pair last ≡ None
+    → (atoms : List Atom) × AreJointAtoms round thresholds last (result_of left right last atoms)
 
 -- what a whole join of well-made states gives is well made
 abbrev pub JoinsMakeWell : Type 0

@@ -9,3 +9,4 @@ pub mod Anew
 pub mod Chains
 pub mod Rename
 pub mod Same
+pub mod JointExamples

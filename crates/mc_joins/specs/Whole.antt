@@ -1,12 +1,14 @@
 -- Whole joins, and what they give.
-use Rattle.std.specs.Prelude.{◌≡◌, ◌==◌, ◌&&◌, ◌++◌, ℕ, suc, ℤ, Bool, true, List, [], ◌∷◌, Option, Some, None, length}
+use Rattle.std.specs.Prelude.{◌≡◌, ◌↔◌, ◌==◌, ◌&&◌, ◌++◌, ℕ, suc, ℤ, Bool, true, List, [], ◌∷◌, Option, Some, None, length}
 use Rattle.std.specs.Prelude.{option_map, option_to_list}
 use Rattle.std.specs.Option.{option_or}
 use Rattle.mc_base.specs.declared.plain.Atom.{Atom}
 use Rattle.mc_base.specs.declared.plain.Kind.{Kind}
 use Rattle.mc_state.specs.Graph.Graph.{numbered}
 use Rattle.mc_pure_ops.specs.Join.Joint.{Pairs, IsJoin}
-use Rattle.mc_pure.specs.Pure.{Kinds, kind_of}
+use Rattle.mc_pure.specs.Pure.{Kinds, Pure, kind_of}
+use Rattle.mc_pure.specs.Derived.{Follows}
+use Rattle.mc_pure.specs.Known.{IsFit}
 use Rattle.mc_pure.specs.Whole.{IsWholeList}
 use Rattle.mc_state.specs.declared.line.JoinStep.{JoinStep}
 use Rattle.mc_state.specs.State.{State, pure_of}
@@ -46,10 +48,17 @@ result_of left right j atoms =
       whole = left.whole && right.whole && all_used j;
     }
 
--- the atoms of a join, judged on the two states as they were before any fold, with the nodes that were named; they
--- are written as the canonical list of what they derive, with the disequalities inside one class
+-- these atoms over the nodes of a state, alone
+abbrev pub over_nodes : State → List Atom → Pure
+over_nodes t atoms = record { kinds = t.kinds; written = atoms; starts = [] }
+
+-- the atoms of a join, which may be written: they entail what its joint atoms do, judged on the two states as they were before
+-- any fold, with the nodes that were named; and they are the canonical list of that, with the disequalities inside one class
 pub record AreJointAtoms (round : ℕ) (thresholds : List ℤ) (j : Joining) (t : State) : Type 0 where
-  pub join : IsJoin (pure_of j.left.state) (pure_of j.right.state) j.pairs round thresholds (alone t)
+  pub joint : List Atom
+  pub join : IsJoin (pure_of j.left.state) (pure_of j.right.state) j.pairs round thresholds (over_nodes t joint)
+  pub fit : IsFit (alone t)
+  pub same : (f : Atom) → Follows (alone t) f ↔ Follows (over_nodes t joint) f
   pub listed : IsWholeList (alone t) t.atoms
 
 -- the steps are a whole join of two states, and this is what it gives in a pass

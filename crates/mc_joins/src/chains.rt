@@ -4,5 +4,7 @@
 mod examples;
 mod laws;
 
-pub use examples::{assertion_alarms, joins_of_c3, tries_of_c2};
-pub use laws::{changes_are_judged, final_chains_find_faults, numbering_makes_well};
+pub use examples::{assertion_alarms, counters_are_joined, joins_of_c3, tries_of_c2};
+pub use laws::{
+    changes_are_judged, final_chains_find_faults, joint_atoms_are_there, numbering_makes_well,
+};

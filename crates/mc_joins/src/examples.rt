@@ -14,10 +14,12 @@ ghost use Rattle.mc_state.specs.Stands.{Stands, StandsBy};
 ghost use Rattle.mc_joins.specs.Examples.{by_atoms, pair, all_joined, all_joined_but, cell, list_at, way, state_of};
 ghost use Rattle.mc_joins.specs.Examples.{a_list, a_cell, a_tree, at_start, one_on, some_on, both_null};
 ghost use Rattle.mc_joins.specs.Examples.{a_length, one_longer, with_longer, at_zero, at_one};
+ghost use Rattle.mc_joins.specs.JointExamples.{TiedCountersJoin, TurnedJoins, OneClassJoins};
 ghost use Rattle.mc_joins.specs.Joinings.{begun, next_pair};
 ghost use Rattle.mc_joins.specs.Steps.{after_step, after_steps, is_stuck};
 ghost use Rattle.mc_joins.specs.Whole.{result_of};
 
+use crate::same::derived_is_renamed;
 use mc_flow::heap::parts_regroup;
 use mc_state::{body_premises, covers_are_sound, example_covers};
 
@@ -79,6 +81,40 @@ pub fn counter_joins()
     ensures second { IsJointRange Int 2 (pos 0 ∷ pos 9 ∷ []) (pos 0) (pos 0) (pos 1) (pos 1) (pos 0) (pos 1) }
     ensures third { IsJointRange Int 3 (pos 0 ∷ pos 9 ∷ []) (pos 0) (pos 0) (pos 1) (pos 1) (pos 0) (pos 9) }
 {}
+
+/// Two counters that are tied by an offset: in the third pass one is widened to the next threshold, and the offset takes
+/// a number off the other.
+pub fn tied_counters_join()
+    ensures { TiedCountersJoin }
+{
+    mc_pure::normal_forms_say_all();
+    mc_pure::derived_grows();
+    mc_pure::each_is_decided();
+    mc_pure::derived_is_true();
+    derived_is_renamed();
+}
+
+/// A disequality with a number, of nodes that are numbered the other way round than in what the join gives.
+pub fn turned_joins()
+    ensures { TurnedJoins }
+{
+    mc_pure::normal_forms_say_all();
+    mc_pure::derived_grows();
+    mc_pure::each_is_decided();
+    mc_pure::derived_is_true();
+    derived_is_renamed();
+}
+
+/// A disequality inside one class, which comes of two pointers that are known to differ.
+pub fn one_class_joins()
+    ensures { OneClassJoins }
+{
+    mc_pure::normal_forms_say_all();
+    mc_pure::derived_grows();
+    mc_pure::each_is_decided();
+    mc_pure::derived_is_true();
+    derived_is_renamed();
+}
 
 /// Two cells stand for a cell and a list, and for what the join of a list with those gives.
 pub fn cells_stand_for_join()

@@ -1,7 +1,8 @@
 // What holds of the steps of joins. Each law is what a function with no body ensures.
-ghost use Rattle.mc_joins.specs.Laws.{StuckIsEvery, JoinsAreDetermined, JoinsAreSound};
+ghost use Rattle.mc_joins.specs.Laws.{StuckIsEvery, JoinsAreDetermined, JoinsAreSound, JoinsAreThere};
 ghost use Rattle.mc_joins.specs.Laws.{JoinsMakeWell, StepsAreDetermined, StepsKeepMade, PrefixesAreDetermined};
 
+use crate::same::derived_is_renamed;
 use mc_cover::firsts_are_covers;
 use mc_flow::heap::parts_regroup;
 use mc_rules_logic::fold::{naming_is_judged, naming_is_sound, naming_makes_well};
@@ -33,6 +34,21 @@ pub fn joins_are_determined()
     mc_pure::derived_grows();
 }
 
+/// Steps that come to the end of a join of two well-made states that are not false are a whole join: whatever the pass and
+/// the thresholds, there are atoms of what it gives.
+pub fn joins_are_there()
+    ensures { JoinsAreThere }
+{
+    mc_pure::normal_forms_say_all();
+    mc_pure::derived_grows();
+    mc_pure::each_is_decided();
+    naming_is_judged();
+    naming_makes_well();
+    nodes_are_there();
+    tests_tell();
+    derived_is_renamed();
+}
+
 /// What a whole join of well-made states gives is well made.
 pub fn joins_make_well()
     ensures { JoinsMakeWell }
@@ -58,4 +74,5 @@ pub fn joins_are_sound()
     tests_tell();
     picks_are_named();
     firsts_are_covers();
+    mc_pure::derived_is_true();
 }

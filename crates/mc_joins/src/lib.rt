@@ -1,5 +1,6 @@
 //! Joins of two states, states equal up to renaming, and chains of several passes, as definitions with their laws, and
-//! the first code over them.
+//! the first code over them. A join of states that are not false has exactly one result once no step is left: its atoms
+//! are the canonical list of what the joint atoms entail.
 //!
 //! Stands on `mc_kernel`; called by no crate of the program yet.
 #![tactic(auto)]
@@ -14,8 +15,10 @@ pub mod same;
 
 pub use examples::{
     cells_stand_for_join, counter_joins, empty_joins, folding_joins, naming_joins,
-    null_stands_for_join, refused_joins, segment_joins, stuck_joins,
+    null_stands_for_join, one_class_joins, refused_joins, segment_joins, stuck_joins,
+    tied_counters_join, turned_joins,
 };
 pub use laws::{
-    joins_are_determined, joins_are_sound, joins_make_well, steps_are_determined, stuck_is_every,
+    joins_are_determined, joins_are_sound, joins_are_there, joins_make_well, steps_are_determined,
+    stuck_is_every,
 };

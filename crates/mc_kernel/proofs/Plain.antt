@@ -10,17 +10,21 @@ use Rattle.mc_base.specs.Kinds.{InKind}
 use Rattle.mc_base.specs.Nodes.{Valuation}
 use Rattle.mc_pure.specs.Pure.{Pure, Kinds}
 use Rattle.mc_pure.specs.Derived.{IsFalse}
-use Rattle.mc_pure.specs.Laws.{TrueIsNotFalse}
+use Rattle.mc_pure.specs.Laws.{IsTrue, TrueIsNotFalse}
 use Rattle.mc_kernel.proofs.ShownLemmas.Numbers.{numbers_fit}
 
 -- what is known where no block is
 abbrev pub known_of : Kinds → List Atom → Pure
 known_of kinds atoms = record { kinds = kinds; written = atoms; starts = [] }
 
+pub base_true : (v : Valuation) (kinds : Kinds) (atoms : List Atom) → v 0 ≡ pos 0 → AllByRecursion (λ (k : NodeId × Kind). InKind k.1 (v k.0.0)) kinds → AllByRecursion (IsTrueAtom v) atoms
+    → IsTrue v (known_of kinds atoms)
+base_true v kinds atoms null kinds_are atoms_are = numbers_fit v (known_of kinds atoms) null kinds_are atoms_are tt (omega arith)
+
 pub not_false : (v : Valuation) (kinds : Kinds) (atoms : List Atom) → v 0 ≡ pos 0 → AllByRecursion (λ (k : NodeId × Kind). InKind k.1 (v k.0.0)) kinds → AllByRecursion (IsTrueAtom v) atoms
     → TrueIsNotFalse → IsFalse (known_of kinds atoms) → ⊥
 not_false v kinds atoms null kinds_are atoms_are law wrong =
-    law (known_of kinds atoms) v (numbers_fit v (known_of kinds atoms) null kinds_are atoms_are tt (omega arith)) wrong
+    law (known_of kinds atoms) v (base_true v kinds atoms null kinds_are atoms_are) wrong
 
 -- ---- short lists
 

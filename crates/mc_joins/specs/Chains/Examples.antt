@@ -10,12 +10,16 @@ use Rattle.mc_flow.specs.declared.instr.Instr.TheVariants as instr
 use Rattle.mc_flow.specs.declared.instr.Operand.TheVariants.{Var, Const}
 use Rattle.mc_state.specs.declared.line.Form.TheVariants.{Chain}
 use Rattle.mc_state.specs.declared.line.Version.TheVariants.{One}
-use Rattle.mc_kernel.specs.Branches.{Path, Setting}
+use Rattle.mc_kernel.specs.Branches.{Head, Path, Setting}
 use Rattle.mc_kernel.specs.Examples.{at, var, flow_of, loop_vars}
 use Rattle.mc_state.specs.State.{State}
 use Rattle.mc_joins.specs.Examples.{by_atoms}
 use Rattle.mc_joins.specs.Chains.Chains.{over}
 use Rattle.mc_joins.specs.Chains.Judges.{Lore}
+use Rattle.mc_joins.specs.Chains.Opened.{JoinsState}
+use Rattle.mc_joins.specs.JointExamples.{two_known, tied}
+use Rattle.mc_joins.specs.Parts.{Basis}
+use Rattle.mc_base.specs.declared.plain.Kind.TheVariants.{Int}
 
 -- ---- int main() { while (input() != 0) {} assert(0); return 0; }
 
@@ -76,3 +80,11 @@ told k = record k { lines = record k.lines { know = by_atoms.know }; tidy = λ s
 -- where besides a join writes no atom, and states are the same or not
 abbrev pub told_same : Bool → Lore → Lore
 told_same same k = record (told k) { joint = λ round last. []; same = λ s t. same }
+
+-- in the third pass, where a cut has two counters that are tied by an offset, and a branch comes to it with greater ones, C3 puts
+-- what their join gives in the place of the cut's state
+abbrev pub CountersAreJoined : Type 0
+CountersAreJoined =
+    (w : Basis)
+    → (heads : List Head) × JoinsState w 3 (pos 0 ∷ pos 10 ∷ []) (with_one (two_known Int (tied (pos 1)))) 0 []
+    (arrived (two_known Int (tied (pos 2)))) [] heads

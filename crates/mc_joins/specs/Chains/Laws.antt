@@ -1,6 +1,7 @@
 -- What holds of chains.
 use Rattle.std.specs.Prelude.{◌≡◌, ◌↔◌, ℕ, true, List, [], Some, None}
 use Rattle.std.specs.List.{AllByRecursion}
+use Rattle.mc_base.specs.declared.plain.Atom.{Atom}
 use Rattle.mc_lines.specs.declared.cert.line.Line.{Line}
 use Rattle.mc_flow.specs.declared.defs.rules.Def.{Def}
 use Rattle.mc_flow.specs.declared.graph.Flow.{Flow}
@@ -16,7 +17,7 @@ use Rattle.mc_kernel.specs.Branches.{Path, Setting, states_at}
 use Rattle.mc_kernel.specs.Certificates.{IsLastPass, FaultsOnlyStuck}
 use Rattle.mc_joins.specs.Joinings.{Joining, begun, next_pair}
 use Rattle.mc_joins.specs.Steps.{after_steps}
-use Rattle.mc_joins.specs.Whole.{AreJointAtoms}
+use Rattle.mc_joins.specs.Whole.{AreJointAtoms, result_of}
 use Rattle.mc_joins.specs.Chains.Chains.{IsLegalChain, IsFinal, KnowsStates, last_pass}
 use Rattle.mc_joins.specs.Chains.Judges.{Lore, basis, given_by, opening_state, joining_state}
 use Rattle.mc_joins.specs.Chains.Opened.{OpensState, JoinsState}
@@ -46,6 +47,15 @@ pub record IsRight (k : Lore) (flow : Flow) (defs : List Def) : Type 0 where
       → AreJointAtoms round flow.thresholds last (given_by k round left right last)
   pub same : (s t : State) → Made flow defs s → Made flow defs t → (k.same s t ≡ true)
       ↔ ((f : ℕ → ℕ) × (back : ℕ → ℕ) × AreSameUnder f back s t)
+
+-- there are such atoms for all whole joins, as a function of the pass and the join
+abbrev pub JointIsThere : Type 0
+JointIsThere =
+    (know : State → Test) (flow : Flow) (defs : List Def) → KnowsStates flow defs know
+    → (joint : ℕ → Joining → List Atom)
+    × ((round : ℕ) (left right : State) (steps : List JoinStep) (last : Joining)
+    → IsWholeJoin know flow defs left right steps last
+    → AreJointAtoms round flow.thresholds last (result_of left right last (joint round last)))
 
 -- C2 is judged by its instances
 abbrev pub OpeningIsJudged : Type 0

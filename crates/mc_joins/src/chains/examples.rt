@@ -9,7 +9,10 @@ ghost use Rattle.mc_kernel.specs.Examples.{at};
 ghost use Rattle.mc_joins.specs.Examples.{a_list, a_cell, a_tree};
 ghost use Rattle.mc_joins.specs.Chains.Chains.{HasAlarms, IsUnfinished};
 ghost use Rattle.mc_joins.specs.Chains.Examples.{assert_flow, assert_document, short_document, arrived, with_one, told, told_same};
+ghost use Rattle.mc_joins.specs.Chains.Examples.{CountersAreJoined};
 ghost use Rattle.mc_joins.specs.Chains.Judges.{Lore, opening_state, joining_state};
+
+use crate::same::derived_is_renamed;
 
 /// A loop over inputs and an assertion that fails after it: its chain has one alarm; the chain that ends after its
 /// first pass is not final.
@@ -42,3 +45,14 @@ pub fn joins_of_c3()
         (arrived a_list) ≡ Err 3 }
     ensures open_still { (k : Lore) → joining_state (told_same false k) defs 1 (with_one a_cell) 0 [] (arrived a_list) ≡ Err 5 }
 {}
+
+/// A C3 line of a third pass, where the ranges of two counters are widened and an offset ties them.
+pub fn counters_are_joined()
+    ensures { CountersAreJoined }
+{
+    mc_pure::normal_forms_say_all();
+    mc_pure::derived_grows();
+    mc_pure::each_is_decided();
+    mc_pure::derived_is_true();
+    derived_is_renamed();
+}

@@ -15,6 +15,7 @@ returns c =
       new_kinds = c.nodes_are_there.ensures.kinds;
       below = c.nodes_are_there.ensures.below;
       truth = c.derived_is_true.ensures.derived;
+      entailed = c.derived_is_true-2.ensures.derived;
       predicate = c.covers_are_sound.ensures.predicate;
       segment = c.covers_are_sound.ensures.segment;
       told = c.tests_tell.ensures.kind;

@@ -1,0 +1,10 @@
+pub mod Finite
+pub mod Sorting
+pub mod Listing
+pub mod Fits
+pub mod Whole
+pub mod Joint
+pub mod Naming
+pub mod Kinds
+pub mod Consistent
+pub mod Present
