@@ -6,13 +6,13 @@ use Rattle.mc_flow.specs.declared.defs.rules.Def.{Def}
 use Rattle.mc_flow.specs.declared.graph.Flow.{Flow}
 use Rattle.mc_app.specs.declared.words.words.Analyse.{Analyse}
 use Rattle.mc_app.specs.Words.Words.{AsksAnalyse}
-use Rattle.mc_load.specs.Lowered.Graphs.{AreLong, IsGraphOf}
+use Rattle.mc_load.specs.Lowered.Graphs.{IsGraphOf, IsLong}
 use Rattle.mc_app.specs.declared.analysing.Analysed.{Analysed}
 use Rattle.mc_app.specs.declared.analysing.Analysed.TheVariants.{TooLong, Found}
 
--- each flow graph of the program is too long; or this is found of one that is not; where that one has loops, a search may give up
+-- the flow graph of the program has more than 10,000 points; or this is found of one that has not; where that one has loops, a search may give up
 abbrev pub IsWhyAnalysed : Analyse → UnitTree → List Def → Analysed → Type 0
-IsWhyAnalysed a unit defs TooLong = AreLong a.start.now unit defs
+IsWhyAnalysed a unit defs TooLong = IsLong a.start.now unit defs
 IsWhyAnalysed a unit defs (Found analysis) =
     (flow : Flow) × IsGraphOf a.start.now unit defs flow × (length flow.points ≤ 10000) × IsAnalysis flow defs analysis
 
