@@ -1,7 +1,6 @@
 -- The points of calls, simple statements and declarations exist.
 use Rattle.std.proofs.Common.{◌≡◌, ◌≤◌, ◌<◌, ◌+◌, ◌++◌, ◌⊎◌, ℕ, zero, suc, ltb, List, [], ◌∷◌, Option, Some, None, map, take, length, refl, sym, ap, subst, ◌∙◌, arith, inl, inr, Contains, append-nil, slice_index, length-take-le, ltb-true, lt-ltb}
-use Rattle.std.proofs.lemmas.Bool.{cases_eq}
-use Rattle.std.proofs.lemmas.List.Elements.{Contains-append_left, Contains-append_right, Contains-push_cases, Contains-push}
+use Rattle.std.proofs.lemmas.List.Elements.{Contains-append_left, Contains-append_right, Contains-append_cases}
 use Rattle.std.proofs.lemmas.Option.{same_Some, slice_get_cases}
 use Rattle.std.specs.List.{AllZip}
 use Rattle.std.specs.Prelude.{slice_get}
@@ -23,28 +22,16 @@ use Rattle.mc_lower_spec.specs.Scopes.{DeclareIn, StartsIn}
 use Rattle.mc_lower_laws.specs.Lowerable.Lowerable.{AllNameOnly, IsLowerableRight, IsLowerableValue, IsLowerableAction, AreLowerableItems, IsLowerableStart, IsLowerableLast, IsLowerableFunction, IsOnce}
 use Rattle.mc_lower_laws.specs.Valid.Kinds.{Here, IsOf, IsCall, IsLeft, IsAction, IsDeclared, AreDeclared, IsStart, IsLast}
 use Rattle.mc_lower_laws.specs.Existing.Ranks.{right_calls, value_calls, action_calls, items_calls, start_calls, last_calls}
-use Rattle.mc_lower_laws.proofs.ExistingLemmas.Tables.{Draft, Owned, In, occurrence, Adds, Source, Piece, kept_in, lays_both, one_longer, none_among, among_one, among_cases, mapped, unmapped, adds_within, nothing, on, then_on, meant, up_to}
+use Rattle.mc_lower_laws.proofs.ExistingLemmas.Tables.{Draft, Owned, In, Adds, Source, Piece, kept_in, lays_both, one_longer, among_one, adds_within, nothing, on, then_on, meant, up_to}
 use Rattle.mc_lower_laws.proofs.ExistingLemmas.Values.{laying, undefining, creating, AreNamed, still_named, evaluating_all}
 use Rattle.mc_lower_laws.proofs.ExistingLemmas.Choosing.{AreExact, picked, are_picked}
 use Rattle.mc_lower_laws.proofs.ExistingLemmas.Actions.{putting_in, assigning_expression, assigning_allocation, changing_by, numbers_from, from_low, low_from, receiving, passing, awaited, awaiting_one}
+use Rattle.mc_lower_laws.proofs.ScopedLemmas.Lists.{contains_none, mapped, unmapped}
+use Rattle.mc_lower_laws.proofs.SingleLemmas.Owning.{occurrence}
+use Rattle.mc_lower_spec.proofs.LengthLemmas.Least.{below_low}
+use Rattle.mc_lower_laws.proofs.LowerableLemmas.Wholes.{in_below}
 
 -- ---- numbers
-pub below_low : (n x : ℕ) → Contains (below n) x → x < n
-below_low zero x among = absurd (omega (arith, among.1))
-below_low (suc n) x among =
-    elim (Contains-push_cases (below n) n x among) [
-      | inl old ↦ let low = below_low n x old in omega (arith, low)
-      | inr same ↦ omega (arith, same)
-    ]
-
-pub low_below : (n x : ℕ) → x < n → Contains (below n) x
-low_below zero x low = absurd (omega (arith, low))
-low_below (suc n) x low =
-    elim (cases_eq x n) [
-      | inl same ↦ subst (λ z. Contains (below n ++ n ∷ []) z) (sym same) (Contains-push (below n) n)
-      | inr apart ↦ Contains-append_left (below n) (n ∷ []) x (low_below n x (omega (arith, low, apart)))
-    ]
-
 once_left : (xs ys : List ℕ) → IsOnce (xs ++ ys) → IsOnce xs
 once_left [] ys once = tt
 once_left (x ∷ xs) ys once = (λ among. once.0 (Contains-append_left xs ys x among), once_left xs ys once.1)
@@ -54,7 +41,7 @@ once_right [] ys once = once
 once_right (x ∷ xs) ys once = once_right xs ys once.1
 
 once_apart : (xs ys : List ℕ) (y : ℕ) → IsOnce (xs ++ ys) → Contains xs y → Contains ys y → ⊥
-once_apart [] ys y once here there = none_among y here
+once_apart [] ys y once here there = contains_none y here
 once_apart (x ∷ xs) ys y once (zero, within, is) there = once.0 (Contains-append_right xs ys x (subst (λ z. Contains ys z) (sym is) there))
 once_apart (x ∷ xs) ys y once (suc k, within, is) there = once_apart xs ys y once.1 (k, omega (arith, within), is) there
 
@@ -97,7 +84,7 @@ after {out = out} {n = n} {m = m} {l = l} {made = made} {known = known} {old = o
     record {
       within = bound;
       exact = record {
-        has = λ x among. elim (among_cases made xs x among) [
+        has = λ x among. elim (Contains-append_cases made xs x among) [
           | inl early ↦ kept_in a.keeps (s.exact.has x early)
           | inr late ↦ a.has (local out x) (mapped (local out) xs x late)
         ];
@@ -112,7 +99,7 @@ after {out = out} {n = n} {m = m} {l = l} {made = made} {known = known} {old = o
         ];
       };
       named = record {
-        has = λ x among. elim (among_cases xs known x among) [
+        has = λ x among. elim (Contains-append_cases xs known x among) [
           | inl late ↦ a.has (local out x) (mapped (local out) xs x late)
           | inr early ↦ kept_in a.keeps (s.named.has x early)
         ];
@@ -129,7 +116,7 @@ after {out = out} {n = n} {m = m} {l = l} {made = made} {known = known} {old = o
         ]
       ];
       answered = λ k is. kept_in a.keeps (s.answered k is);
-      new = λ x among there. elim (among_cases made xs x there) [
+      new = λ x among there. elim (Contains-append_cases made xs x there) [
         | inl early ↦ s.new x (Contains-append_right xs ys x among) early
         | inr late ↦ once_apart xs ys x s.once late among
       ];
@@ -163,7 +150,7 @@ hidden {old = old} inner a =
           | inr within ↦ inr (inr within)
         ]
       ];
-      has = λ o among. absurd (none_among o among);
+      has = λ o among. absurd (contains_none o among);
     }
 
 pub hiding : {z : Source} {n m : ℕ} {mine : List Owner} {old : List Owned} {R : Graph → Stage → Stage → Type 0} → ((o : Owner) → Contains mine o → (q : ℕ) × (occurrence o ≡ Some q) × (n ≤ q) × (q < m)) → Piece z n m mine old R → Piece z n m [] old R
@@ -247,11 +234,11 @@ beginning {z = z} h f inner out n m known place old es same named names of count
     let passes = passing_all {z = z} {out = out} h known (take f.parameters f.locals) n receives.all place es vs same (still_named receives.adds named) names of fit in
     let before : Piece z n (n + preparing es) (map (local inner) (numbers_from 0 f.parameters)) old (λ g s u. (i : Stage) × Receives g f inner 0 f.parameters s vs i × PassesAll g out place es vs i u) =
     then_on receives passes (λ g s i u is a b. (i, a, b)) in
-    let r = awaiting_one {z = z} (n + preparing es) before.all inner place f.result (result_new (numbers_from 0 f.parameters) free (omega (arith, low)) high (omega (arith, low)) before.adds) in
+    let r = awaiting_one {z = z} (n + preparing es) before.all inner place f.result (result_new {all = before.all} (numbers_from 0 f.parameters) free (omega (arith, low)) high (omega (arith, low)) before.adds) in
     record {
       ret = r.ret;
       some = r.some;
-      piece = on before r.piece (λ g s i u is (j, a, b) c. record { variables = vs; received = j; passed = i; receives = a; passes = b; awaits = c });
+      piece = on {S = λ g s u. Awaits g inner place f.result s r.ret u} {T = λ g s u. Begins g f inner out place es r.ret s u} before r.piece (λ g s i u is (j, a, b) c. record { variables = vs; received = j; passed = i; receives = a; passes = b; awaits = c });
     }
 
 -- ---- the body
@@ -264,12 +251,12 @@ pub record Callable (z : Source) (table : List ℕ) (i : ℕ) (f : Function) : T
       → Piece z n (n + stretch_all table (below f.parameters) [] f.body) (map (local out) (all_declared f.body)) old (λ g s u. LowersAll g (in_body f out) f.body s u)
 
 pub awaited_is : (inner : ℕ) (kind : Option Kind) (o : Owner) → Contains (awaited inner kind) o → result inner ≡ o
-awaited_is inner None o among = absurd (none_among o among)
+awaited_is inner None o among = absurd (contains_none o among)
 awaited_is inner (Some kind) o among = among_one (result inner) o among
 
 mine_cases : (inner : ℕ) (f : Function) (o : Owner) → Contains (mine_of inner f) o → ((x : ℕ) × (x < f.parameters) × (local inner x ≡ o)) ⊎ (result inner ≡ o)
 mine_cases inner f o among =
-    elim (among_cases (map (local inner) (numbers_from 0 f.parameters)) (awaited inner f.result) o among) [
+    elim (Contains-append_cases (map (local inner) (numbers_from 0 f.parameters)) (awaited inner f.result) o among) [
       | inl here ↦ let (x, within, same) = unmapped (local inner) (numbers_from 0 f.parameters) o here in let low = from_low 0 f.parameters x within in inl (x, omega (arith, low.1), same)
       | inr there ↦ inr (awaited_is inner f.result o there)
     ]
@@ -300,7 +287,7 @@ stands_inside {f = f} {inner = inner} {n = n} {l = l} {m = m} {old = old} {all =
           | inl early ↦ absurd (free (local inner x) inner refl (omega (arith, low, high)) bound early)
           | inr late ↦ elim late [
             | inl own ↦ elim (mine_cases inner f (local inner x) own) [
-              | inl here ↦ let same : here.0 ≡ x = ap number_of here.2 in low_below f.parameters x (omega (arith, here.1, same))
+              | inl here ↦ let same : here.0 ≡ x = ap number_of here.2 in in_below f.parameters x (omega (arith, here.1, same))
               | inr there ↦ absurd (cc there)
             ]
             | inr within ↦ absurd (omega (arith, within.1, high))
@@ -382,7 +369,7 @@ calling_of {z = z} table h out n known place old d wanted same program named nam
   where
     all_inner : (f : Function) (inner : ℕ) (o : Owner) → Contains (mine_of inner f ++ map (local inner) (all_declared f.body)) o → occurrence o ≡ Some inner
     all_inner f inner o among =
-        elim (among_cases (mine_of inner f) (map (local inner) (all_declared f.body)) o among) [
+        elim (Contains-append_cases (mine_of inner f) (map (local inner) (all_declared f.body)) o among) [
           | inl early ↦ mine_is inner f o early
           | inr late ↦ let (x, within, same) = unmapped (local inner) (all_declared f.body) o late in sym (ap occurrence same)
         ]

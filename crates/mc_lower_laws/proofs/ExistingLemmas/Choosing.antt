@@ -12,6 +12,7 @@ use Rattle.mc_lower_spec.specs.Graphs.{Graph, Owner, local, result, temporary, s
 use Rattle.mc_lower_spec.specs.Length.Lengths.{clearing, leaving}
 use Rattle.mc_lower_laws.proofs.ExistingLemmas.Tables.{Owned, Has, In, Source, Piece, up_to, meant as seen_as}
 use Rattle.mc_lower_laws.proofs.ExistingLemmas.Values.{undefining, knowing}
+use Rattle.mc_lower_laws.proofs.ScopedLemmas.Lists.{contains_tail}
 
 module _ {X Y : Type 0} (make : ℕ → Y) (number : Y → ℕ) (back : (n : ℕ) → number (make n) ≡ n) (test : X → Bool) where
   -- the items from this number on that pass
@@ -20,9 +21,6 @@ module _ {X Y : Type 0} (make : ℕ → Y) (number : Y → ℕ) (back : (n : ℕ
     pub ascending : AllPairs (λ v w. number v < number w) chosen
     pub all : (i n : ℕ) (x : X) → n ≡ k + i → slice_get xs i ≡ Some x → test x ≡ true → Contains chosen (make n)
     pub only : All (λ v. (i : ℕ) × (x : X) × (number v ≡ k + i) × (slice_get xs i ≡ Some x) × (test x ≡ true)) chosen
-
-  later : (y z : Y) (ys : List Y) → Contains ys z → Contains (y ∷ ys) z
-  later y z ys (k, within, is) = (suc k, omega (arith, within), is)
 
   choosing_by : (b : Bool) (k : ℕ) (x : X) (xs : List X) → test x ≡ b → Chosen (suc k) xs → Chosen k (x ∷ xs)
   choosing_by true k x xs is rest =
@@ -41,7 +39,7 @@ module _ {X Y : Type 0} (make : ℕ → Y) (number : Y → ℕ) (back : (n : ℕ
     where
       at_each : (i n : ℕ) (y : X) → n ≡ k + i → slice_get (x ∷ xs) i ≡ Some y → test y ≡ true → Contains (make k ∷ rest.chosen) (make n)
       at_each zero n y same there passes = let e : k ≡ n = omega (arith, same) in (zero, omega arith, ap make e)
-      at_each (suc i) n y same there passes = later (make k) (make n) rest.chosen (rest.all i n y (omega (arith, same)) there passes)
+      at_each (suc i) n y same there passes = contains_tail (make k) rest.chosen (make n) (rest.all i n y (omega (arith, same)) there passes)
   choosing_by false k x xs is rest =
       record {
         chosen = rest.chosen;

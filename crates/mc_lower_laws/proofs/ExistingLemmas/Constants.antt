@@ -11,7 +11,7 @@ use Rattle.mc_flow.specs.declared.instr.Operand.{Operand}
 use Rattle.mc_flow.specs.declared.instr.Operand.TheVariants.{Var, Const}
 use Rattle.mc_flow.specs.declared.graph.Point.{Point}
 use Rattle.mc_lower_spec.specs.Lowering.{AreThresholds, operands}
-use Rattle.mc_lower_laws.proofs.ExistingLemmas.Tables.{none_among}
+use Rattle.mc_lower_laws.proofs.ScopedLemmas.Lists.{contains_tail, contains_cases, contains_none}
 
 cases_z : (a b : ℤ) → (a <ℤ b) ⊎ (a ≡ b) ⊎ (b <ℤ a)
 cases_z a b = by_ranked (a <ℤ b) (a ≡ b) (b <ℤ a) (int_cmp a b) (int_ranked a b (int_cmp a b) refl) (λ is less. inl less) (λ is same. inr (inl same)) (λ is more. inr (inr more))
@@ -36,13 +36,6 @@ record With (c : ℤ) (cs : List ℤ) : Type 0 where
   keeps : (d : ℤ) → Contains cs d → Contains list d
   only : (d : ℤ) → Contains list d → (c ≡ d) ⊎ Contains cs d
 
-behind : (h c : ℤ) (cs : List ℤ) → Contains cs c → Contains (h ∷ cs) c
-behind h c cs (k, within, is) = (suc k, omega (arith, within), is)
-
-split : (h c : ℤ) (cs : List ℤ) → Contains (h ∷ cs) c → (h ≡ c) ⊎ Contains cs c
-split h c cs (zero, within, is) = inl is
-split h c cs (suc k, within, is) = inr (k, omega (arith, within), is)
-
 above_first : (h : ℤ) (cs : List ℤ) → AllPairs (λ a b. a <ℤ b) (h ∷ cs) → All (λ b. h <ℤ b) cs
 above_first h cs pairs k d within = pairs zero (suc k) d (omega arith) (omega (arith, within))
 
@@ -55,21 +48,21 @@ inserted c [] pairs =
       list = c ∷ [];
       ascending = AllPairs-cons (λ a b. a <ℤ b) c [] (λ k d within. absurd (omega (arith, within))) pairs;
       has = (zero, omega arith, refl);
-      keeps = λ d among. absurd (none_among d among);
-      only = λ d among. elim (split c d [] among) [ inl same ↦ inl same | inr more ↦ inr more ];
+      keeps = λ d among. absurd (contains_none d among);
+      only = λ d among. elim (contains_cases c [] d among) [ inl same ↦ inl same | inr more ↦ inr more ];
     }
 inserted c (h ∷ cs) pairs =
     elim (cases_z c h) [
       | inl less ↦ record {
         list = c ∷ h ∷ cs;
         ascending = AllPairs-cons (λ a b. a <ℤ b) c (h ∷ cs)
-            (each (λ b. c <ℤ b) (h ∷ cs) (λ d among. elim (split h d cs among) [
+            (each (λ b. c <ℤ b) (h ∷ cs) (λ d among. elim (contains_cases h cs d among) [
               | inl same ↦ subst (λ z. c <ℤ z) same less
               | inr more ↦ less_on c h d less (All-contains (λ b. h <ℤ b) cs d (above_first h cs pairs) more)
             ])) pairs;
         has = (zero, omega arith, refl);
-        keeps = λ d among. behind c d (h ∷ cs) among;
-        only = λ d among. split c d (h ∷ cs) among;
+        keeps = λ d among. contains_tail c (h ∷ cs) d among;
+        only = λ d among. contains_cases c (h ∷ cs) d among;
       }
       | inr other ↦ elim other [
         | inl same ↦ record {
@@ -92,16 +85,16 @@ inserted c (h ∷ cs) pairs =
                 | inl same ↦ subst (λ z. h <ℤ z) same more
                 | inr old ↦ All-contains (λ b. h <ℤ b) cs d (above_first h cs pairs) old
               ])) w.ascending;
-          has = behind h c w.list w.has;
-          keeps = λ d among. elim (split h d cs among) [
+          has = contains_tail h w.list c w.has;
+          keeps = λ d among. elim (contains_cases h cs d among) [
             | inl same ↦ (zero, omega arith, same)
-            | inr old ↦ behind h d w.list (w.keeps d old)
+            | inr old ↦ contains_tail h w.list d (w.keeps d old)
           ];
-          only = λ d among. elim (split h d w.list among) [
+          only = λ d among. elim (contains_cases h w.list d among) [
             | inl same ↦ inr (zero, omega arith, same)
             | inr later ↦ elim (w.only d later) [
               | inl is ↦ inl is
-              | inr old ↦ inr (behind h d cs old)
+              | inr old ↦ inr (contains_tail h cs d old)
             ]
           ];
         }
@@ -118,23 +111,16 @@ abbrev const_in : Operand → ℤ
 const_in (Var x) = pos 0
 const_in (Const c) = c
 
-op_split : (h o : Operand) (os : List Operand) → Contains (h ∷ os) o → (h ≡ o) ⊎ Contains os o
-op_split h o os (zero, within, is) = inl is
-op_split h o os (suc k, within, is) = inr (k, omega (arith, within), is)
-
-op_behind : (h o : Operand) (os : List Operand) → Contains os o → Contains (h ∷ os) o
-op_behind h o os (k, within, is) = (suc k, omega (arith, within), is)
-
 all_inserted : (os : List Operand) (cs : List ℤ) → AllPairs (λ a b. a <ℤ b) cs → WithAll os cs
-all_inserted [] cs pairs = record { list = cs; ascending = pairs; has = λ c among. absurd (none_among (Const c) among); keeps = λ d among. among; only = λ d among. inr among }
+all_inserted [] cs pairs = record { list = cs; ascending = pairs; has = λ c among. absurd (contains_none (Const c) among); keeps = λ d among. among; only = λ d among. inr among }
 all_inserted (Var x ∷ os) cs pairs =
     let w = all_inserted os cs pairs in
     record {
       list = w.list;
       ascending = w.ascending;
-      has = λ c among. elim (op_split (Var x) (Const c) os among) [ inl same ↦ absurd (cc same) | inr more ↦ w.has c more ];
+      has = λ c among. elim (contains_cases (Var x) os (Const c) among) [ inl same ↦ absurd (cc same) | inr more ↦ w.has c more ];
       keeps = w.keeps;
-      only = λ d among. elim (w.only d among) [ inl here ↦ inl (op_behind (Var x) (Const d) os here) | inr old ↦ inr old ];
+      only = λ d among. elim (w.only d among) [ inl here ↦ inl (contains_tail (Var x) os (Const d) here) | inr old ↦ inr old ];
     }
 all_inserted (Const k ∷ os) cs pairs =
     let w = all_inserted os cs pairs in
@@ -142,14 +128,14 @@ all_inserted (Const k ∷ os) cs pairs =
     record {
       list = v.list;
       ascending = v.ascending;
-      has = λ c among. elim (op_split (Const k) (Const c) os among) [
+      has = λ c among. elim (contains_cases (Const k) os (Const c) among) [
         | inl same ↦ subst (λ z. Contains v.list z) (ap const_in same) v.has
         | inr more ↦ v.keeps c (w.has c more)
       ];
       keeps = λ d among. v.keeps d (w.keeps d among);
       only = λ d among. elim (v.only d among) [
         | inl same ↦ inl (zero, omega arith, ap Const same)
-        | inr later ↦ elim (w.only d later) [ inl here ↦ inl (op_behind (Const k) (Const d) os here) | inr old ↦ inr old ]
+        | inr later ↦ elim (w.only d later) [ inl here ↦ inl (contains_tail (Const k) os (Const d) here) | inr old ↦ inr old ]
       ];
     }
 
@@ -160,7 +146,7 @@ record Collected (points : List Point) : Type 0 where
   only : (c : ℤ) → Contains list c → (n : ℕ) × (p : Point) × (slice_get points n ≡ Some p) × Contains (operands p.code) (Const c)
 
 collected : (points : List Point) → Collected points
-collected [] = record { list = []; ascending = λ i j d less within. absurd (omega (arith, less, within)); has = λ n p c there among. absurd (cc there); only = λ c among. absurd (none_among c among) }
+collected [] = record { list = []; ascending = λ i j d less within. absurd (omega (arith, less, within)); has = λ n p c there among. absurd (cc there); only = λ c among. absurd (contains_none c among) }
 collected (p ∷ points) =
     let rest = collected points in
     let w = all_inserted (operands p.code) rest.list rest.ascending in

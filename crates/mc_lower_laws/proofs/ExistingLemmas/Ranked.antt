@@ -3,7 +3,7 @@ use Rattle.std.proofs.Common.{◌≡◌, ◌≤◌, ◌<◌, ◌+◌, ◌++◌, 
 use Rattle.std.specs.Option.{option_map_or}
 use Rattle.std.specs.List.{position_or_len}
 use Rattle.std.specs.Cmp.Lexicographic.{bytes_decides}
-use Rattle.std.proofs.lemmas.List.Elements.{Contains-append_left, Contains-append_right}
+use Rattle.std.proofs.lemmas.List.Elements.{Contains-append_left, Contains-append_right, Contains-append_cases}
 use Rattle.std.proofs.lemmas.Option.{same_Some, slice_get_cases}
 use Rattle.std.specs.Prelude.{slice_get}
 use Rattle.mc_flow.specs.declared.defs.rules.Def.{Def}
@@ -17,19 +17,16 @@ use Rattle.mc_c_types.specs.Tables.{Tables, Variable, variable_of as declared_va
 use Rattle.mc_semantics.specs.Resolved.Programs.{Function, Program}
 use Rattle.mc_semantics.specs.Resolved.Resolving.{Naming, body_statements, defined_functions, function_number, resolved_right, resolved_action, resolved_items, resolved_start, resolved_simple, resolved_statement, resolved_statements, naming_of, parameter_scope, resolved_function, resolved_program}
 use Rattle.mc_lower_laws.specs.Existing.Ranks.{right_calls, value_calls, action_calls, items_calls, start_calls, last_calls, calls_in, all_calls_in, HasRanks}
-use Rattle.mc_lower_laws.proofs.ExistingLemmas.Tables.{none_among, among_cases, mapped, unmapped}
+use Rattle.mc_lower_laws.proofs.ExistingLemmas.Tables.{both_mapped, unmapped_at}
+use Rattle.mc_lower_laws.proofs.ScopedLemmas.Lists.{contains_none, mapped, unmapped}
 
 -- ---- what is called
 -- the number of the function that a call names
 abbrev numbered : Tables → Name → ℕ
 numbered t name = function_number t name.text
 
-both : {X Y : Type 0} (h : X → Y) (xs ys : List X) → map h xs ++ map h ys ≡ map h (xs ++ ys)
-both h [] ys = refl
-both h (x ∷ xs) ys = ap (λ l. h x ∷ l) (both h xs ys)
-
 side_by_side : {X Y : Type 0} (h : X → Y) (xs ys : List X) (us vs : List Y) → us ≡ map h xs → vs ≡ map h ys → us ++ vs ≡ map h (xs ++ ys)
-side_by_side h xs ys us vs first second = ap (λ l. l ++ vs) first ∙ ap (λ l. map h xs ++ l) second ∙ both h xs ys
+side_by_side h xs ys us vs first second = ap (λ l. l ++ vs) first ∙ ap (λ l. map h xs ++ l) second ∙ both_mapped h xs ys
 
 right_named : (n : Naming) (vs : List Variable) (r : tree.Right) → right_calls (resolved_right n vs r) ≡ map (numbered n.tables) (tree_right_calls r)
 right_named n vs (tree.expression e) = refl
@@ -112,11 +109,6 @@ found_named name (f ∷ fs) g is = at (is_same f.name.text name) (position_or_le
     at true k same more is = ap (λ (h : tree.FunctionTree). h.name.text) (sym (same_Some f g is)) ∙ (bytes_decides f.name.text name).0 same
     at false k same more is = let next : 1 + k ≡ suc k = omega arith in more (sym (ap (λ i. slice_get (f ∷ fs) i) next) ∙ is)
 
-unmapped_at : {X Y : Type 0} (h : X → Y) (xs : List X) (i : ℕ) (y : Y) → slice_get (map h xs) i ≡ Some y → (x : X) × (slice_get xs i ≡ Some x) × (h x ≡ y)
-unmapped_at h [] i y is = absurd (cc is)
-unmapped_at h (x ∷ xs) zero y is = (x, refl, same_Some (h x) y is)
-unmapped_at h (x ∷ xs) (suc i) y is = unmapped_at h xs i y is
-
 kept : (b : Bool) (f g : tree.FunctionTree) (fs : List tree.FunctionTree) → Contains (cond b (f ∷ fs) fs) g → Contains (f ∷ fs) g
 kept true f g fs among = among
 kept false f g fs (k, within, is) = (suc k, omega (arith, within), is)
@@ -138,21 +130,21 @@ abbrev site : tree.FunctionTree → Name → CallSite
 site f name = record { caller = f.name.text; callee = name }
 
 body_site : (f : tree.FunctionTree) (body : Option tree.BodyTree) (name : Name) → Contains (statements_calls (option_map_or (λ b. tree.stmts_of b.statements) body tree.no_more)) name → Contains (body_sites f.name.text body) (site f name)
-body_site f None name among = absurd (none_among name among)
+body_site f None name among = absurd (contains_none name among)
 body_site f (Some body) name among = mapped (λ n. record { caller = f.name.text; callee = n }) (statements_calls (tree.stmts_of body.statements)) name among
 
 item_site : (item : tree.ItemTree) (f : tree.FunctionTree) (name : Name) → Contains (item_functions item) f → Contains (statements_calls (body_statements f)) name → Contains (item_sites item) (site f name)
-item_site (tree.structure s) f name among calls = absurd (none_among f among)
-item_site (tree.typedef d) f name among calls = absurd (none_among f among)
+item_site (tree.structure s) f name among calls = absurd (contains_none f among)
+item_site (tree.typedef d) f name among calls = absurd (contains_none f among)
 item_site (tree.function g) f name (zero, within, is) calls =
     subst (λ (h : tree.FunctionTree). Contains (body_sites g.name.text g.body) (site h name)) is
     (body_site g g.body name (subst (λ (h : tree.FunctionTree). Contains (statements_calls (body_statements h)) name) (sym is) calls))
 item_site (tree.function g) f name (suc k, within, is) calls = absurd (omega (arith, within))
 
 unit_site : (unit : List tree.ItemTree) (f : tree.FunctionTree) (name : Name) → Contains (flat_map item_functions unit) f → Contains (statements_calls (body_statements f)) name → Contains (flat_map item_sites unit) (site f name)
-unit_site [] f name among calls = absurd (none_among f among)
+unit_site [] f name among calls = absurd (contains_none f among)
 unit_site (item ∷ unit) f name among calls =
-    elim (among_cases (item_functions item) (flat_map item_functions unit) f among) [
+    elim (Contains-append_cases (item_functions item) (flat_map item_functions unit) f among) [
       | inl here ↦ Contains-append_left (item_sites item) (flat_map item_sites unit) (site f name) (item_site item f name here calls)
       | inr there ↦ Contains-append_right (item_sites item) (flat_map item_sites unit) (site f name) (unit_site unit f name there calls)
     ]

@@ -18,7 +18,7 @@ use Rattle.mc_lower_spec.specs.Scopes.{IsScopedIn, AreScopedIn}
 use Rattle.mc_lower_laws.specs.Lowerable.Lowerable.{IsLowerableValue, IsLowerable, AreLowerable}
 use Rattle.mc_lower_laws.specs.Valid.Kinds.{Here, IsReturned, IsOfKinds, AreOfKinds}
 use Rattle.mc_lower_laws.specs.Existing.Ranks.{value_calls, start_calls, last_calls, calls_in, all_calls_in}
-use Rattle.mc_lower_laws.proofs.ExistingLemmas.Tables.{Draft, Owned, In, Adds, Source, Piece, lays_both, one_longer, adds_on, adds_within, has_before, runs_up, nothing, on, then_on, meant, up_to}
+use Rattle.mc_lower_laws.proofs.ExistingLemmas.Tables.{Draft, Owned, In, Adds, Source, Piece, lays_both, one_longer, adds_on, adds_within, has_before, runs_up, nothing, on, then_on, meant, up_to, both_mapped}
 use Rattle.mc_lower_laws.proofs.ExistingLemmas.Values.{laying, knowing, found, still_named, Fork, forks_up, evaluating, testing_of, testing_maybe}
 use Rattle.mc_lower_laws.proofs.ExistingLemmas.Choosing.{leaving_now}
 use Rattle.mc_lower_laws.proofs.ExistingLemmas.Actions.{Closes, closing, setting_expression, setting_allocation, argument_of, arguments_of}
@@ -238,10 +238,6 @@ fits_here z f = record { structs = refl; program = refl }
 
 pub record InLoop (loops : Bool) (c : Around) : Type 0 where
   pub loop : IsTrue loops → (l : Loop) × (c.loop ≡ Some l)
-
-both_mapped : (h : ℕ → Owner) (xs ys : List ℕ) → map h xs ++ map h ys ≡ map h (xs ++ ys)
-both_mapped h [] ys = refl
-both_mapped h (x ∷ xs) ys = ap (λ l. h x ∷ l) (both_mapped h xs ys)
 
 together : {z : Source} {n m : ℕ} {old : List Owned} {R : Graph → Stage → Stage → Type 0} (h : ℕ → Owner) (xs ys : List ℕ) → Piece z n m (map h xs ++ map h ys) old R → Piece z n m (map h (xs ++ ys)) old R
 together {z = z} {n = n} {m = m} {old = old} {R = R} h xs ys p = subst (λ o. Piece z n m o old R) (both_mapped h xs ys) p

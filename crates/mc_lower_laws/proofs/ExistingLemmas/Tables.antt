@@ -1,6 +1,6 @@
 -- Flow graphs in the making: lists of points and of variables, which each flow graph that is meant begins with.
-use Rattle.std.proofs.Common.{◌≡◌, ◌≤◌, ◌<◌, ◌+◌, ◌++◌, ◌⊎◌, ℕ, zero, suc, List, [], ◌∷◌, Option, Some, None, map, length, refl, sym, ap, subst, ◌∙◌, arith, inl, inr, append-nil, length-append, Contains}
-use Rattle.std.proofs.lemmas.List.Elements.{Contains-append_left, Contains-append_right}
+use Rattle.std.proofs.Common.{◌≡◌, ◌≤◌, ◌<◌, ◌+◌, ◌++◌, ◌⊎◌, ℕ, zero, suc, List, [], ◌∷◌, Some, None, map, length, refl, sym, ap, subst, ◌∙◌, arith, inl, inr, append-nil, length-append, Contains}
+use Rattle.std.proofs.lemmas.List.Elements.{Contains-append_left, Contains-append_right, Contains-append_cases}
 use Rattle.std.proofs.lemmas.Option.{same_Some}
 use Rattle.std.specs.Prelude.{slice_get}
 use Rattle.mc_base.specs.declared.plain.VarInfo.{VarInfo}
@@ -8,7 +8,9 @@ use Rattle.mc_base.specs.declared.text.place.Place.{Place}
 use Rattle.mc_flow.specs.declared.defs.shapes.Structs.{Structs}
 use Rattle.mc_flow.specs.declared.instr.Instr.{Instr}
 use Rattle.mc_semantics.specs.Resolved.Programs.{Program}
-use Rattle.mc_lower_spec.specs.Graphs.{Graph, Owner, local, result, temporary, Role, Stage, stage, IsPoint}
+use Rattle.mc_lower_spec.specs.Graphs.{Graph, Owner, Role, Stage, stage, IsPoint}
+use Rattle.mc_lower_laws.proofs.ScopedLemmas.Lists.{contains_none}
+use Rattle.mc_lower_laws.proofs.SingleLemmas.Owning.{occurrence}
 
 -- a point and a variable of a flow graph in the making
 pub record Draft : Type 0 where
@@ -35,12 +37,6 @@ pub record In (all : List Owned) (o : Owner) : Type 0 where
   pub number : ℕ
   pub info : VarInfo
   pub there : slice_get all number ≡ Some (record { owner = o; info = info })
-
--- the occurrence of a function that a variable is of
-abbrev pub occurrence : Owner → Option ℕ
-occurrence (local out x) = Some out
-occurrence (result out) = Some out
-occurrence (temporary j kind) = None
 
 -- no two variables have one owner
 abbrev pub AreOnce : List Owned → Type 0
@@ -87,37 +83,22 @@ pub one_longer : {X : Type 0} (xs : List X) (x : X) → length (xs ++ x ∷ []) 
 one_longer [] x = refl
 one_longer (h ∷ xs) x = ap suc (one_longer xs x)
 
-pub none_among : {X : Type 0} (x : X) → Contains [] x → ⊥
-none_among x among = omega (arith, among.1)
-
 pub among_one : {X : Type 0} (y x : X) → Contains (y ∷ []) x → y ≡ x
 among_one y x (zero, within, is) = is
 among_one y x (suc k, within, is) = absurd (omega (arith, within))
 
-pub among_cases : {X : Type 0} (xs ys : List X) (x : X) → Contains (xs ++ ys) x → Contains xs x ⊎ Contains ys x
-among_cases [] ys x among = inr among
-among_cases (h ∷ xs) ys x (zero, within, is) = inl (zero, omega arith, is)
-among_cases (h ∷ xs) ys x (suc k, within, is) =
-    elim (among_cases xs ys x (k, omega (arith, within), is)) [
-      | inl here ↦ inl (suc here.0, omega (arith, here.1), here.2)
-      | inr there ↦ inr there
-    ]
+pub both_mapped : {X Y : Type 0} (h : X → Y) (xs ys : List X) → map h xs ++ map h ys ≡ map h (xs ++ ys)
+both_mapped h [] ys = refl
+both_mapped h (x ∷ xs) ys = ap (λ l. h x ∷ l) (both_mapped h xs ys)
 
-pub mapped : {X Y : Type 0} (h : X → Y) (xs : List X) (x : X) → Contains xs x → Contains (map h xs) (h x)
-mapped h [] x among = absurd (none_among x among)
-mapped h (y ∷ xs) x (zero, within, is) = (zero, omega arith, ap h is)
-mapped h (y ∷ xs) x (suc k, within, is) = let more = mapped h xs x (k, omega (arith, within), is) in (suc more.0, omega (arith, more.1), more.2)
-
-pub unmapped : {X Y : Type 0} (h : X → Y) (xs : List X) (y : Y) → Contains (map h xs) y → (x : X) × Contains xs x × (h x ≡ y)
-unmapped h [] y among = absurd (none_among y among)
-unmapped h (x ∷ xs) y (zero, within, is) = (x, (zero, omega arith, refl), is)
-unmapped h (x ∷ xs) y (suc k, within, is) =
-    let more = unmapped h xs y (k, omega (arith, within), is) in
-    (more.0, (suc more.1.0, omega (arith, more.1.1), more.1.2), more.2)
+pub unmapped_at : {X Y : Type 0} (h : X → Y) (xs : List X) (i : ℕ) (y : Y) → slice_get (map h xs) i ≡ Some y → (x : X) × (slice_get xs i ≡ Some x) × (h x ≡ y)
+unmapped_at h [] i y is = absurd (cc is)
+unmapped_at h (x ∷ xs) zero y is = (x, refl, same_Some (h x) y is)
+unmapped_at h (x ∷ xs) (suc i) y is = unmapped_at h xs i y is
 
 -- ---- what is added
 pub adds_none : (n m : ℕ) (old : List Owned) → Adds n m [] old old
-adds_none n m old = record { keeps = λ i v is. is; once = λ once. once; only = λ o q is there. inl there; has = λ o among. absurd (none_among o among) }
+adds_none n m old = record { keeps = λ i v is. is; once = λ once. once; only = λ o q is there. inl there; has = λ o among. absurd (contains_none o among) }
 
 pub adds_on : {n m l : ℕ} {mine yours : List Owner} {old mid all : List Owned} → n ≤ m → m ≤ l → Adds n m mine old mid → Adds m l yours mid all → Adds n l (mine ++ yours) old all
 adds_on {n = n} {m = m} {l = l} {mine = mine} {yours = yours} low high a b =
@@ -137,7 +118,7 @@ adds_on {n = n} {m = m} {l = l} {mine = mine} {yours = yours} low high a b =
           | inr inner ↦ inr (inr (omega (arith, inner.0, low), inner.1))
         ]
       ];
-      has = λ o among. elim (among_cases mine yours o among) [
+      has = λ o among. elim (Contains-append_cases mine yours o among) [
         | inl early ↦ kept_in b.keeps (a.has o early)
         | inr late ↦ b.has o late
       ];
@@ -207,7 +188,7 @@ adds_temporary n m old o info none new =
         | inl early ↦ inl early
         | inr same ↦ let never : None ≡ Some q = sym none ∙ ap occurrence same ∙ of in absurd (cc never)
       ];
-      has = λ other among. absurd (none_among other among);
+      has = λ other among. absurd (contains_none other among);
     }
 
 -- ---- pieces of flow graphs

@@ -19,14 +19,16 @@ use Rattle.mc_lower_spec.specs.Scopes.{AreScoped}
 use Rattle.mc_lower_laws.specs.Lowerable.Lowerable.{IsLowerableFunction, IsLowerableProgram}
 use Rattle.mc_lower_laws.specs.Valid.Kinds.{IsWellMade}
 use Rattle.mc_lower_laws.specs.Existing.Ranks.{all_calls_in, HasRanks}
-use Rattle.mc_lower_laws.proofs.ExistingLemmas.Tables.{Draft, Owned, Lays, Has, In, occurrence, Adds, AreOnce, Source, Piece, kept_in, lays_both, one_longer, nothing, on, then_on, meant}
+use Rattle.mc_lower_laws.proofs.ExistingLemmas.Tables.{Draft, Owned, Lays, Has, In, Adds, AreOnce, Source, Piece, kept_in, lays_both, one_longer, nothing, on, then_on, meant, unmapped_at}
 use Rattle.mc_lower_laws.proofs.ExistingLemmas.Values.{laying, knowing, creating, found}
 use Rattle.mc_lower_laws.proofs.ExistingLemmas.Choosing.{choosing}
 use Rattle.mc_lower_laws.proofs.ExistingLemmas.Actions.{awaited}
-use Rattle.mc_lower_laws.proofs.ExistingLemmas.Calls.{below_low, Stands, AllCallable, awaited_is, awaited_in}
+use Rattle.mc_lower_laws.proofs.ExistingLemmas.Calls.{Stands, AllCallable, awaited_is, awaited_in}
 use Rattle.mc_lower_laws.proofs.ExistingLemmas.Statements.{all_lowering_of}
 use Rattle.mc_lower_laws.proofs.ExistingLemmas.Counts.{table, exact}
 use Rattle.mc_lower_laws.proofs.ExistingLemmas.Constants.{thresholds_of}
+use Rattle.mc_lower_laws.proofs.SingleLemmas.Owning.{occurrence}
+use Rattle.mc_lower_spec.proofs.LengthLemmas.Least.{below_low}
 
 -- ---- `main`
 same_codes : (xs ys : List ℕ) → (xs ≡ ys) ⊎ (xs ≡ ys → ⊥)
@@ -232,11 +234,6 @@ graph_with z drafts all =
 
 mapped_at : {X Y : Type 0} (h : X → Y) (xs : List X) (i : ℕ) (x : X) → slice_get xs i ≡ Some x → slice_get (map h xs) i ≡ Some (h x)
 mapped_at h xs i x is = slice_get-map h xs i ∙ ap (option_map h) is
-
-unmapped_at : {X Y : Type 0} (h : X → Y) (xs : List X) (i : ℕ) (y : Y) → slice_get (map h xs) i ≡ Some y → (x : X) × (slice_get xs i ≡ Some x) × (h x ≡ y)
-unmapped_at h [] i y is = absurd (cc is)
-unmapped_at h (x ∷ xs) zero y is = (x, refl, same_Some (h x) y is)
-unmapped_at h (x ∷ xs) (suc i) y is = unmapped_at h xs i y is
 
 long_map : {X Y : Type 0} (h : X → Y) (xs : List X) → length (map h xs) ≡ length xs
 long_map h [] = refl

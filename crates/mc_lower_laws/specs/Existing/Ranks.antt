@@ -1,6 +1,7 @@
 -- Resolved programs without recursion.
 use Rattle.std.specs.Prelude.{◌≡◌, ◌<◌, ◌++◌, ℕ, List, [], ◌∷◌, Option, Some, None, Contains, slice_get}
-use Rattle.mc_semantics.specs.Resolved.Programs.{Right, expression, result_of, allocation, Action, assign, add, subtract, call, Simple, Initial}
+use Rattle.mc_semantics.specs.Resolved.Programs.{Right, expression, result_of, allocation, Action, assign, add, subtract, call, Simple}
+use Rattle.mc_semantics.specs.Resolved.Programs.{Initial}
 use Rattle.mc_semantics.specs.Resolved.Programs.{Start, nothing, declares, performs, Stmt, declaration, block, empty, simple, free, assert}
 use Rattle.mc_semantics.specs.Resolved.Programs.{assume, assume_shape, assert_shape, assert_empty, if_only, if_else, while_loop, do_loop}
 use Rattle.mc_semantics.specs.Resolved.Programs.{for_loop, break_loop, continue_loop, returns, Stmts, no_more, then, Function, Program}
