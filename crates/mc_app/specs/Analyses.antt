@@ -10,7 +10,8 @@ use Rattle.mc_load.specs.Lowered.Graphs.{IsGraphOf, IsLong}
 use Rattle.mc_app.specs.declared.analysing.Analysed.{Analysed}
 use Rattle.mc_app.specs.declared.analysing.Analysed.TheVariants.{TooLong, Found}
 
--- the flow graph of the program has more than 10,000 points; or this is found of one that has not; where that one has loops, a search may give up
+-- the flow graph of the program has more than 10,000 points; or it has not, and this is found of it;
+-- where it has loops, a search may give up
 abbrev pub IsWhyAnalysed : Analyse → UnitTree → List Def → Analysed → Type 0
 IsWhyAnalysed a unit defs TooLong = IsLong a.start.now unit defs
 IsWhyAnalysed a unit defs (Found analysis) =
