@@ -49,7 +49,7 @@ use Rattle.mc_app.specs.declared.words.words.Request.TheVariants as request
 use Rattle.mc_app.specs.Words.Words.{Asks, AsksAnalyse, AsksCheck}
 use Rattle.mc_app.specs.Alike.{AreJudgedAlike, AreStill, EndAlike, IsFoundStatus, NamesSame}
 use Rattle.mc_app.specs.Answers.{IsWhyWords, analysed_document, checked_status, sources_of, status_of}
-use Rattle.mc_load.specs.Lowered.Graphs.{AreLong, IsGraphOf}
+use Rattle.mc_load.specs.Lowered.Graphs.{IsGraphOf, IsLong}
 use Rattle.mc_app.specs.Checks.{IsJudged, IsWhyChecked}
 use Rattle.mc_app.specs.Documents.{IsVerdictOn}
 use Rattle.mc_app.specs.declared.answer.Answer.{Answer}
@@ -224,7 +224,10 @@ module _ (laws : Laws) (after : Holds) (more : List (List ℕ)) (c : Check) (ask
 
   judged : (d : Check) → AsksCheck more d → (ending : Found) → IsWhyChecked after d unit defs ending → AlikeFound found ending
   judged d too TooLong why =
-      let longer = subst (λ (s : List ℕ). AreLong s unit defs) (start_too d too) why flow graph in absurd (omega arith)
+      let graph_too = subst (λ (s : List ℕ). IsGraphOf s unit defs why.0) (start_too d too) why.1 in
+      let flow_is = one_flow laws c.start.now text definitions unit defs here flow why.0 graph graph_too in
+      let same : length why.0.points ≡ length flow.points = ap (λ (f : Flow). length f.points) flow_is in
+      absurd (omega (arith, same, why.2, short))
   judged d too (Judged v) why = verdict_on d too v why (analysed_document (results.Found found)) refl
 
   refused_never : (r : Request) (refusal : Refusal) → Asks more r → IsRefused after (sources_of r) refusal → ⊥

@@ -10,7 +10,7 @@ use Rattle.mc_app.specs.Blocked.{FaultsComeBy}
 use Rattle.mc_app.specs.Checks.{IsSafeUnit}
 use Rattle.mc_app.specs.declared.words.words.Analyse.{Analyse}
 use Rattle.mc_app.specs.Words.Words.{AsksAnalyse}
-use Rattle.mc_load.specs.Lowered.Graphs.{AreLong, IsGraphOf}
+use Rattle.mc_load.specs.Lowered.Graphs.{IsGraphOf, IsLong}
 use Rattle.mc_app.specs.declared.analysing.Analysed.{Analysed}
 use Rattle.mc_app.specs.declared.analysing.Analysed.TheVariants.{TooLong, Found}
 
@@ -22,10 +22,10 @@ MeansForRuns start unit defs flow (Alarms f count) alarming = FaultsComeBy start
 MeansForRuns start unit defs flow (Paths document) crowded = Unit {0}
 MeansForRuns start unit defs flow Unknown looping = Unit {0}
 
--- each flow graph of the program is too long; or this is found of one that is not, and what it means; where that one has loops, a
+-- the flow graph of the program has more than 10,000 points; or it has not, and this is found of it, and what it means; where that one has loops, a
 -- search may give up
 abbrev pub IsWhyAnalysed : Analyse → UnitTree → List Def → Analysed → Type 0
-IsWhyAnalysed a unit defs TooLong = AreLong a.start.now unit defs
+IsWhyAnalysed a unit defs TooLong = IsLong a.start.now unit defs
 IsWhyAnalysed a unit defs (Found found) =
     (flow : Flow) × IsGraphOf a.start.now unit defs flow × (length flow.points ≤ 10000)
     × ((is : IsAnalysis flow defs found) × MeansForRuns a.start.now unit defs flow found is)

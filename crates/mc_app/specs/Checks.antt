@@ -12,7 +12,7 @@ use Rattle.mc_document.specs.Judge.Verdicts.{IsChain}
 use Rattle.mc_document.specs.declared.judge.verdict.Verdict.{Verdict}
 use Rattle.mc_document.specs.declared.judge.verdict.Verdict.TheVariants.{Safe, Alarms, Refused}
 use Rattle.mc_kernel.specs.Branches.{Path}
-use Rattle.mc_load.specs.Lowered.Graphs.{AreLong, IsGraphOf}
+use Rattle.mc_load.specs.Lowered.Graphs.{IsGraphOf, IsLong}
 use Rattle.mc_semantics.specs.Steps.{IsSafeProgram, program_of}
 use Rattle.mc_outside.specs.Outside.{WhereTold}
 use Rattle.mc_app.specs.declared.words.words.Check.{Check}
@@ -60,5 +60,5 @@ pub record IsJudged (holds : Holds) (c : Check) (unit : UnitTree) (defs : List D
 
 -- why the check of a document of this program with these definitions comes to this
 abbrev pub IsWhyChecked : Holds → Check → UnitTree → List Def → Checked → Type 0
-IsWhyChecked holds c unit defs TooLong = AreLong c.start.now unit defs
+IsWhyChecked holds c unit defs TooLong = IsLong c.start.now unit defs
 IsWhyChecked holds c unit defs (Judged v) = IsJudged holds c unit defs v

@@ -27,7 +27,7 @@ use std::alloc::{AllocError, Global};
 /// What the analysis of a program comes to, where the program and its definitions fit.
 #[derive(Drop)]
 pub enum Analysed {
-    /// Each flow graph of the program has more than 10,000 points.
+    /// The flow graph of the program has more than 10,000 points.
     TooLong,
     Found(Analysis),
 }

@@ -24,7 +24,7 @@ use std::alloc::Global;
 /// What the check of a document comes to, where the program and its definitions fit.
 #[derive(Drop)]
 pub enum Checked {
-    /// Each flow graph of the program has more than 10,000 points.
+    /// The flow graph of the program has more than 10,000 points.
     TooLong,
     Judged(Verdict),
 }

@@ -1,3 +1,4 @@
+pub mod ExistingLemmas
 pub mod KindsLemmas
 pub mod LowerableLemmas
 pub mod ScopedLemmas

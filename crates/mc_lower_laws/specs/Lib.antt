@@ -1,3 +1,4 @@
+pub mod Existing
 pub mod Faults
 pub mod Kinds
 pub mod Lowerable

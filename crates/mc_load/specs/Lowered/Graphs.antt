@@ -20,6 +20,6 @@ pub record IsGraphOf (start : List ℕ) (unit : UnitTree) (defs : List Def) (flo
   pub count : ℕ
   pub lowered : IsLowering graph function out count
 
--- each of them has more than 10,000 points
-abbrev pub AreLong : (start : List ℕ) → UnitTree → List Def → Type 0
-AreLong start unit defs = (flow : Flow) → IsGraphOf start unit defs flow → 10000 < length flow.points
+-- the program has a flow graph, and it has more than 10,000 points
+abbrev pub IsLong : (start : List ℕ) → UnitTree → List Def → Type 0
+IsLong start unit defs = (flow : Flow) × IsGraphOf start unit defs flow × (10000 < length flow.points)

@@ -3,20 +3,21 @@ ghost use Rattle.std.specs.Prelude.{◌≤◌, IfErr, IfOk, length};
 ghost use Rattle.mc_c_syntax.specs.Ast.Views.{unit_of};
 ghost use Rattle.mc_flow.specs.Valid.{IsValid};
 ghost use Rattle.mc_load.specs.Inputs.Texts.{IsWellFormed};
-ghost use Rattle.mc_load.specs.Lowered.Graphs.{AreLong, IsGraphOf};
+ghost use Rattle.mc_load.specs.Lowered.Graphs.{IsGraphOf, IsLong};
 
 use crate::read::programs_have_distinct_places;
-use mc_c_check::Bound;
+use mc_c_check::{Bound, calls_have_ranks};
 use mc_c_grammar::numbers::numbers_are_small;
 use mc_c_grammar::places::ascending_places_differ;
 use mc_lower::{LowerFault, Lowered, lower};
+use mc_lower_laws::existing::{flow_graphs_exist, resolved_programs_have_ranks};
 use mc_lower_laws::kinds::{resolved_programs_are_well_made, typedefs_are_known};
 use mc_lower_laws::lowerable::resolved_programs_are_lowerable;
 use mc_lower_laws::scoped::resolved_programs_are_scoped;
 use mc_resolve::resolve;
 use std::alloc::{AllocError, Global};
 
-/// Each flow graph of a program has more than 10,000 points.
+/// The flow graph of a program has more than 10,000 points.
 #[derive(Clone, Copy, Debug, PartialEq, Eq)]
 pub struct TooLong;
 
@@ -26,9 +27,9 @@ pub fn graph(alloc: Global, bound: &Bound) -> Result<Result<Lowered, TooLong>, A
     ensures graph { IfOk result (λ r. IfOk r (λ x. IsGraphOf bound.now.typed.entry (unit_of bound.now.typed.unit) bound.now.defs x.flow)) }
     ensures short { IfOk result (λ r. IfOk r (λ x. length x.flow.points ≤ 10000)) }
     ensures valid { IfOk result (λ r. IfOk r (λ x. IsValid x.flow bound.now.defs)) }
-    ensures long { IfOk result (λ r. IfErr r (λ e. AreLong bound.now.typed.entry (unit_of bound.now.typed.unit) bound.now.defs)) }
+    ensures long { IfOk result (λ r. IfErr r (λ e. IsLong bound.now.typed.entry (unit_of bound.now.typed.unit) bound.now.defs)) }
 {
-    // For the proof alone: of what was read and is well typed, all that lowering asks for is there.
+    // For the proof alone: of what was read and is well typed, all that lowering asks for is there, and it has a flow graph.
     programs_have_distinct_places();
     ascending_places_differ();
     typedefs_are_known();
@@ -36,6 +37,9 @@ pub fn graph(alloc: Global, bound: &Bound) -> Result<Result<Lowered, TooLong>, A
     resolved_programs_are_well_made();
     resolved_programs_are_scoped();
     resolved_programs_are_lowerable();
+    calls_have_ranks();
+    resolved_programs_have_ranks();
+    flow_graphs_exist();
     bound.defs();
     let program = resolve(alloc, bound)?;
     match lower(alloc, &program, bound.typed().structs()) {

@@ -47,7 +47,7 @@ less_or_same zero (suc n) less = inl (omega arith)
 less_or_same (suc x) zero less = absurd (omega (arith, less))
 less_or_same (suc x) (suc n) less = ⊎_elim (λ l. inl (omega (arith, l))) (λ e. inr (ap suc e)) (less_or_same x n (omega (arith, less)))
 
-in_below : (n x : ℕ) → x < n → Contains (below n) x
+pub in_below : (n x : ℕ) → x < n → Contains (below n) x
 in_below zero x less = absurd (omega (arith, less))
 in_below (suc n) x less =
     let P : ℕ → Type 0 = λ z. Contains (below n ++ n ∷ []) z in

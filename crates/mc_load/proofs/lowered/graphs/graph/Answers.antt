@@ -16,6 +16,9 @@ lower-requires c =
       made = c.resolved_programs_are_well_made.ensures;
       scoped = c.resolved_programs_are_scoped.ensures;
       lowerable = c.resolved_programs_are_lowerable.ensures;
+      ranks = c.calls_have_ranks.ensures;
+      ranked = c.resolved_programs_have_ranks.ensures;
+      exist = c.flow_graphs_exist.ensures;
     } in
     is_sound bound.typed.entry (unit_of bound.typed.unit) bound.defs c.in_ok-program.program c.structs.result.now c.in_ok-program.ensures infos laws c.requires c.defs.ensures.fit.bound c.defs.ensures.fit.fit
 
@@ -37,6 +40,9 @@ returns-in-Ok-clause-valid c =
       made = c.resolved_programs_are_well_made.ensures;
       scoped = c.resolved_programs_are_scoped.ensures;
       lowerable = c.resolved_programs_are_lowerable.ensures;
+      ranks = c.calls_have_ranks.ensures;
+      ranked = c.resolved_programs_have_ranks.ensures;
+      exist = c.flow_graphs_exist.ensures;
     } in
     let made = well_made bound.typed.entry (unit_of bound.typed.unit) bound.defs c.in_ok-program.program c.structs.result.now c.in_ok-program.ensures infos laws c.requires c.defs.ensures.fit.bound c.defs.ensures.fit.fit in
     c.in-Ok.ensures.valid bound.defs made
@@ -45,4 +51,17 @@ pub returns-in-Err-TooLong-clause-long : goal.returns-in-Err-TooLong-clause-long
 returns-in-Err-TooLong-clause-long c =
     let bound = c.args.bound.now in
     let infos : c.structs.result.now.list ≡ struct_infos (unit_of bound.typed.unit) = rw c.typed.ensures at c.structs.ensures.infos in
-    long_of bound.typed.entry (unit_of bound.typed.unit) bound.defs c.in_ok-program.program c.structs.result.now c.in_ok-program.ensures infos (c.in-Err-TooLong.ensures.long c.in-Err-TooLong.field-0-is)
+    let laws : Laws = record {
+      apart = c.programs_have_distinct_places.ensures;
+      differ = c.ascending_places_differ.ensures;
+      known = c.typedefs_are_known.ensures;
+      small = c.numbers_are_small.ensures;
+      made = c.resolved_programs_are_well_made.ensures;
+      scoped = c.resolved_programs_are_scoped.ensures;
+      lowerable = c.resolved_programs_are_lowerable.ensures;
+      ranks = c.calls_have_ranks.ensures;
+      ranked = c.resolved_programs_have_ranks.ensures;
+      exist = c.flow_graphs_exist.ensures;
+    } in
+    long_of bound.typed.entry (unit_of bound.typed.unit) bound.defs c.in_ok-program.program c.structs.result.now c.in_ok-program.ensures infos laws c.requires c.defs.ensures.fit.bound c.defs.ensures.fit.fit
+    (c.in-Err-TooLong.ensures.long c.in-Err-TooLong.field-0-is)

@@ -1,0 +1,10 @@
+pub mod Tables
+pub mod Values
+pub mod Choosing
+pub mod Actions
+pub mod Calls
+pub mod Statements
+pub mod Counts
+pub mod Constants
+pub mod Whole
+pub mod Ranked
