@@ -18,6 +18,7 @@ use Rattle.mc_state.specs.declared.graph.edge.Edge.TheVariants.{Ind, Seg}
 use Rattle.mc_state.specs.Graph.Graph.{Graph, edge_with}
 use Rattle.mc_state.specs.Known.{Test, Tells}
 use Rattle.mc_state.specs.Named.{are_distinct, is_among, others}
+use Rattle.mc_state.proofs.Lists.{all_left, all_map, all_right}
 use Rattle.mc_state.proofs.Tests.{and_both}
 use Rattle.mc_shape_search.specs.Search.Search.{is_free, is_unused, takes_this, uses}
 use Rattle.mc_cover.specs.declared.goals.Goal.{Goal}
@@ -118,12 +119,7 @@ distinct_front (x ∷ xs) ys e =
     (apart_more x xs a.0 rest.0, rest.1, both_apart x xs ys (not_it x ys a.1) rest.2)
 
 all_front : (P : EdgeId → Type 0) (xs ys : List EdgeId) → AllByRecursion P (xs ++ ys) → AllByRecursion P xs × AllByRecursion P ys
-all_front P [] ys a = (tt, a)
-all_front P (x ∷ xs) ys a = let rest = all_front P xs ys a.1 in ((a.0, rest.0), rest.1)
-
-all_map : (P Q : EdgeId → Type 0) → ((x : EdgeId) → P x → Q x) → (xs : List EdgeId) → AllByRecursion P xs → AllByRecursion Q xs
-all_map P Q f [] a = tt
-all_map P Q f (x ∷ xs) a = (f x a.0, all_map P Q f xs a.1)
+all_front P xs ys a = (all_left P xs ys a, all_right P xs ys a)
 
 -- ---- goals
 
