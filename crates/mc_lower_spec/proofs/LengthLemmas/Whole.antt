@@ -1,5 +1,5 @@
 -- So many points a flow graph has.
-use Rattle.std.proofs.Common.{◌≤◌, ◌+◌, ℕ, suc, List, [], Option, length, arith, inl, inr}
+use Rattle.std.proofs.Common.{◌≤◌, ◌+◌, ℕ, suc, List, [], Option, length, refl, arith, inl, inr}
 use Rattle.mc_base.specs.declared.plain.Kind.{Kind}
 use Rattle.mc_semantics.specs.Resolved.Programs.{Function}
 use Rattle.mc_lower_spec.specs.Graphs.{Graph, local, Stage}

@@ -243,7 +243,14 @@ impl<'a> Counter<'a> {
             Statement::Break(_) => self.jump(),
             Statement::Continue(_) => self.jump(),
             Statement::Return(_, value) => self.returns(value.as_ref()),
-            _ => unreachable!(),
+            Statement::Declaration(_, _)
+            | Statement::Block(_, _)
+            | Statement::Empty
+            | Statement::If(_, _, _)
+            | Statement::IfElse(_, _, _, _)
+            | Statement::While(_, _, _)
+            | Statement::Do(_, _, _)
+            | Statement::For(_, _) => unreachable!(),
         }
     }
 
@@ -278,7 +285,18 @@ impl<'a> Counter<'a> {
                 push(tasks, Waiting::Loop(&[], body))
             }
             Statement::For(head, body) => self.for_loop(tasks, head, body),
-            _ => unreachable!(),
+            Statement::Declaration(_, _)
+            | Statement::Empty
+            | Statement::Simple(_)
+            | Statement::Free(_, _)
+            | Statement::Assert(_, _)
+            | Statement::Assume(_, _)
+            | Statement::AssumeShape(_)
+            | Statement::AssertShape(_)
+            | Statement::AssertEmpty(_)
+            | Statement::Break(_)
+            | Statement::Continue(_)
+            | Statement::Return(_, _) => unreachable!(),
         }
     }
 
