@@ -1,3 +1,4 @@
 pub mod CertifiedLemmas
 pub mod JudgeLemmas
 pub mod ProofLemmas
+pub mod PlacesLemmas

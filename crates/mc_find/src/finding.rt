@@ -1,12 +1,12 @@
 // The search for a certificate.
 ghost use Rattle.std.specs.Prelude.{IfOk, IfSome};
 ghost use Rattle.mc_flow.specs.Valid.{IsValid};
-ghost use Rattle.mc_kernel.specs.Certificates.{IsValidCertificate};
+ghost use Rattle.mc_find.specs.Analysis.Findings.{IsFound};
 
+use crate::accepted::is_found;
 use crate::cuts::loop_heads;
 use crate::walks::{Attempt, Limits, Outcome, Step, Style, Task};
 use mc_base::NoMemory;
-use mc_document::certified::is_certificate;
 use mc_find_view::live::{
     StoredFields, asks_for_empty, asserted_shapes, constant_variables, live_variables,
     wanted_predicates,
@@ -49,7 +49,7 @@ const fn plans(keys: usize) -> [Plan; 10] {
 }
 
 /// One attempt, for which at most so many lines are left; what it takes without success is left no more. What is no valid
-/// certificate counts as nothing.
+/// certificate, has other cuts than the loop heads, ends too many branches, or has a line out of place counts as nothing.
 fn try_one(
     alloc: Global,
     task: Task<'_>,
@@ -60,7 +60,7 @@ fn try_one(
     requires { IsValid task.sight.flow.now task.sight.defs.now }
     ensures { IfOk result
         (λ found. IfSome found
-        (λ lines. IsValidCertificate task.entry.sight.flow.now task.entry.sight.defs.now lines.items)) }
+        (λ lines. IsFound task.entry.sight.flow.now task.entry.sight.defs.now lines.items)) }
 {
     let limits = Limits {
         lines: lines.min(*left),
@@ -69,7 +69,7 @@ fn try_one(
     let attempt = Attempt::new(alloc, task, plan.style, limits)?;
     let taken = match attempt.make()? {
         Outcome::Found(lines) => {
-            if is_certificate(alloc, task.sight.flow, task.sight.defs, lines.as_slice())? {
+            if is_found(alloc, task.sight.flow, task.sight.defs, lines.as_slice())? {
                 return Ok(Some(lines));
             }
             limits.lines
@@ -88,7 +88,7 @@ fn try_all(alloc: Global, task: Task<'_>, limits: Limits) -> Result<Option<Vec<L
     requires { IsValid task.sight.flow.now task.sight.defs.now }
     ensures { IfOk result
         (λ found. IfSome found
-        (λ lines. IsValidCertificate task.entry.sight.flow.now task.entry.sight.defs.now lines.items)) }
+        (λ lines. IsFound task.entry.sight.flow.now task.entry.sight.defs.now lines.items)) }
 {
     let mut left = limits.lines.saturating_mul(WHOLE);
     for plan in &plans(limits.keys) {
@@ -101,7 +101,8 @@ fn try_all(alloc: Global, task: Task<'_>, limits: Limits) -> Result<Option<Vec<L
 }
 
 /// The lines of a valid certificate of a flow graph, from the header to the end line, where one is found within the
-/// limits of each attempt; its cuts are the loop heads. A search may give up: None says only that nothing was found.
+/// limits of each attempt; its cuts are the loop heads, and it ends no more than 65,536 branches. A search may give up: None
+/// says only that nothing was found.
 pub fn find(
     alloc: Global,
     flow: &Flow,
@@ -109,7 +110,7 @@ pub fn find(
     limits: Limits,
 ) -> Result<Option<Vec<Line>>, NoMemory>
     requires { IsValid flow.now defs.now }
-    ensures { IfOk result (λ found. IfSome found (λ lines. IsValidCertificate flow.now defs.now lines.items)) }
+    ensures { IfOk result (λ found. IfSome found (λ lines. IsFound flow.now defs.now lines.items)) }
 {
     let live = live_variables(alloc, flow)?;
     let stored = StoredFields::of(alloc, flow)?;

@@ -4,6 +4,7 @@
 //! Stands on `mc_find_shrink` and `mc_follow`; called by `mc_app`.
 #![tactic(auto)]
 
+mod accepted;
 pub mod analysis;
 mod cuts;
 mod finding;

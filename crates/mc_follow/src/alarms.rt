@@ -10,5 +10,6 @@ mod sides;
 mod walk;
 mod whole;
 
+pub use lines::ends_few;
 pub use outcome::{Document, Outcome};
 pub use whole::alarms;

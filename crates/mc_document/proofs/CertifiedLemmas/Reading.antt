@@ -15,6 +15,8 @@ use Rattle.mc_kernel.specs.Readings.{Reading, begun, behind, finished, reading_l
 use Rattle.mc_state.specs.Premises.{Judged}
 use Rattle.mc_document.specs.declared.proof.fault.ApplyFault.{ApplyFault}
 use Rattle.mc_document.specs.declared.proof.fault.ApplyFault.TheVariants.{Premise}
+use Rattle.mc_document.specs.Places.{AreInPlace, FitsSides, IsCertificateInPlace, may_stand}
+use Rattle.mc_document.proofs.PlacesLemmas.{placed_more, placed_there}
 use Rattle.mc_document.specs.Proof.Positions.{Applies, IsApplied, IsRefusedHere, Position, Stands, position_of}
 use Rattle.mc_kernel.specs.Reading.Documents.{Ends, IsJudge, IsKept, reading_document}
 use Rattle.mc_kernel.specs.Reading.Laws.{BegunIsKept, CertificatesAreRead, CertificatesStickNowhere, LinesAreAdded, LinesKeep, RefusedIsNeverValid}
@@ -30,21 +32,30 @@ pub record IsReadTo (k : Knowledge) (well : RawState → Bool) (flow : Flow) (de
   pub kept : IsKept flow defs last
   pub here : position_of flow defs last ≡ p
 
--- the lines up to the rest are read so by every right judge
+-- the lines up to the rest are read so by every right judge, each where it may stand
 pub record AreRead (flow : Flow) (defs : List Def) (lines rest : List Line) (p : Position) : Type 0 where
   pub before : List Line
   pub are : lines ≡ before ++ rest
   pub read : (k : Knowledge) (well : RawState → Bool) → IsJudge k well flow defs → IsReadTo k well flow defs before p
+  pub placed : (k : Knowledge) (well : RawState → Bool) → IsJudge k well flow defs → AreInPlace k well flow defs before (begun Certificate)
 
 abbrev pub IsWhole : Flow → List Def → List Line → Type 0
 IsWhole flow defs lines = IsValidCertificate flow defs (Header One Certificate ∷ lines)
+
+-- a whole document whose lines stand where they may
+abbrev pub IsWholeInPlace : Flow → List Def → List Line → Type 0
+IsWholeInPlace flow defs lines = IsCertificateInPlace flow defs (Header One Certificate ∷ lines)
+
+-- the lines after a header are one
+same_behind : (lines own : List Line) → ◌≡◌ {A = List Line} (Header One Certificate ∷ lines) (Header One Certificate ∷ own) → own ≡ lines
+same_behind lines own e = cc e
 
 append_none : (lines : List Line) → lines ++ [] ≡ lines
 append_none [] = refl
 append_none (l ∷ lines) = ap (λ (ls : List Line). l ∷ ls) (append_none lines)
 
 -- the line at a number, with those after it
-rest_at : (lines : List Line) (i : ℕ) (l : Line) → i < length lines → l ≡ get_or lines i l → drop i lines ≡ l ∷ drop (i + 1) lines
+pub rest_at : (lines : List Line) (i : ℕ) (l : Line) → i < length lines → l ≡ get_or lines i l → drop i lines ≡ l ∷ drop (i + 1) lines
 rest_at lines i l within is =
     drop-cons lines i l within ∙ ap (λ (x : Line). x ∷ drop (suc i) lines) (sym is) ∙ ap (λ (n : ℕ). l ∷ drop n lines) (sym (add-one i))
 
@@ -53,7 +64,7 @@ drop_none zero = refl
 drop_none (suc i) = refl
 
 -- after the last line there is none
-none_behind : (lines : List Line) (i : ℕ) → length lines ≤ i → drop i lines ≡ []
+pub none_behind : (lines : List Line) (i : ℕ) → length lines ≤ i → drop i lines ≡ []
 none_behind [] i e = drop_none i
 none_behind (l ∷ lines) zero e = absurd (omega arith)
 none_behind (l ∷ lines) (suc i) e = none_behind lines i (omega arith)
@@ -72,6 +83,7 @@ module _ (flow : Flow) (defs : List Def) where
     before = [];
     are = refl;
     read = λ k well judge. record { last = begun Certificate; read = refl; kept = kept flow defs Certificate; here = sym e };
+    placed = λ k well judge. tt;
   }
 
   module _ (k : Knowledge) (well : RawState → Bool) (judge : IsJudge k well flow defs) where
@@ -157,12 +169,16 @@ module _ (flow : Flow) (defs : List Def) where
   -- ---- of all right judges
 
   pub applied_read : LinesAreAdded → LinesKeep → IsValid flow defs → (lines : List Line) (i : ℕ) (l : Line) (old new : Position)
-      → i < length lines → l ≡ get_or lines i l → IsApplied l old new → AreRead flow defs lines (drop i lines) old
+      → i < length lines → l ≡ get_or lines i l → may_stand l old.branches ≡ true → IsApplied l old new → AreRead flow defs lines (drop i lines) old
       → AreRead flow defs lines (drop (i + 1) lines) new
-  applied_read added keep valid lines i l old new within is applied a = record {
+  applied_read added keep valid lines i l old new within is may applied a = record {
     before = a.before ++ l ∷ [];
     are = a.are ∙ ap (λ (ls : List Line). a.before ++ ls) (rest_at lines i l within is) ∙ sym (append_assoc a.before (l ∷ []) (drop (i + 1) lines));
     read = λ k well judge. more_read k well judge added keep valid a.before l old new applied (a.read k well judge);
+    placed = λ k well judge.
+        let r = a.read k well judge in
+        placed_more k well flow defs 2 a.before l (begun Certificate) r.last r.read (a.placed k well judge)
+        (subst (λ (bs : List Path). may_stand l bs ≡ true) (sym (ap (λ (q : Position). q.branches) r.here)) may);
   }
 
   refused_not_whole : JudgesAreThere → RefusedIsNeverValid → IsValid flow defs → (lines : List Line) (i : ℕ) (l : Line) (p : Position) (premise : ℕ)
@@ -194,18 +210,47 @@ module _ (flow : Flow) (defs : List Def) where
   -- a document whose lines are all read has ended exactly where it is a valid certificate
   pub ended_is_whole : JudgesAreThere → CertificatesAreRead → CertificatesStickNowhere → IsValid flow defs → (lines : List Line) (i : ℕ)
       (p : Position) (ended : Bool) → length lines ≤ i → AreRead flow defs lines (drop i lines) p → (ended ≡ true) ↔ (p.stage ≡ finished)
-      → (ended ≡ true) ↔ IsWhole flow defs lines
-  ended_is_whole there certificates none valid lines i p true e a is =
-      (λ yes. finished_whole there certificates none valid lines i p e a (is.0 yes), λ whole. refl)
+      → (ended ≡ true) ↔ IsWholeInPlace flow defs lines
+  ended_is_whole there certificates none valid lines i p true e a is = (
+    λ yes. (
+      finished_whole there certificates none valid lines i p e a (is.0 yes),
+      record {
+        behind = lines;
+        spelled = refl;
+        in_place = λ k well judge.
+            subst (λ (ls : List Line). AreInPlace k well flow defs ls (begun Certificate)) (sym (all_read lines i p e a)) (a.placed k well judge);
+      },
+    ),
+    λ whole. refl,
+  )
   ended_is_whole there certificates none valid lines i p false e a is = (
     λ yes. absurd (cc yes),
-    λ whole. absurd (unfinished_not_whole there certificates valid lines i p e a (λ done. let yes : false ≡ true = is.1 done in cc yes) whole),
+    λ whole. absurd (unfinished_not_whole there certificates valid lines i p e a (λ done. let yes : false ≡ true = is.1 done in cc yes) whole.0),
   )
 
   -- and one that is refused is none
   pub refused_is_not_whole : JudgesAreThere → RefusedIsNeverValid → IsValid flow defs → (lines : List Line) (i : ℕ) (l : Line) (p new : Position)
       (fault : ApplyFault) (premise : ℕ) → i < length lines → l ≡ get_or lines i l → AreRead flow defs lines (drop i lines) p
-      → fault ≡ Premise premise → Applies l p new (Err fault) → (false ≡ true) ↔ IsWhole flow defs lines
+      → fault ≡ Premise premise → Applies l p new (Err fault) → (false ≡ true) ↔ IsWholeInPlace flow defs lines
   refused_is_not_whole there never valid lines i l p new fault premise within is a e applies =
       let refused = subst (λ (f : ApplyFault). Applies l p new (Err f)) e applies in
-      (λ yes. absurd (cc yes), λ whole. absurd (refused_not_whole there never valid lines i l p premise within is refused.0 a whole))
+      (λ yes. absurd (cc yes), λ whole. absurd (refused_not_whole there never valid lines i l p premise within is refused.0 a whole.0))
+
+  -- so is one with a line that may not stand where it is read
+  pub misplaced_is_not_whole : JudgesAreThere → IsValid flow defs → (lines : List Line) (i : ℕ) (l : Line) (p : Position)
+      → i < length lines → l ≡ get_or lines i l → AreRead flow defs lines (drop i lines) p → may_stand l p.branches ≡ false
+      → (false ≡ true) ↔ IsWholeInPlace flow defs lines
+  misplaced_is_not_whole there valid lines i l p within is a misplaced = (λ yes. absurd (cc yes), λ whole. absurd (never whole.1))
+    where
+      never : FitsSides flow defs Certificate (Header One Certificate ∷ lines) → ⊥
+      never sides =
+          let j = there flow defs valid in
+          let r = a.read j.0 j.1 j.2 in
+          let later = drop (i + 1) lines in
+          let are : lines ≡ a.before ++ l ∷ later = a.are ∙ ap (λ (ls : List Line). a.before ++ ls) (rest_at lines i l within is) in
+          let placed : AreInPlace j.0 j.1 flow defs (a.before ++ l ∷ later) (begun Certificate) =
+          subst (λ (ls : List Line). AreInPlace j.0 j.1 flow defs ls (begun Certificate)) (same_behind lines sides.behind sides.spelled ∙ are) (sides.in_place j.0 j.1 j.2) in
+          let may : may_stand l r.last.branches ≡ true = placed_there j.0 j.1 flow defs 2 a.before later l (begun Certificate) r.last r.read placed in
+          let here : may_stand l r.last.branches ≡ may_stand l p.branches = ap (λ (q : Position). may_stand l q.branches) r.here in
+          let clash : false ≡ true = sym misplaced ∙ sym here ∙ may in
+          cc clash

@@ -22,7 +22,7 @@ use Rattle.mc_kernel.specs.Reading.Documents.{IsJudge, is_rule}
 use Rattle.mc_document.specs.declared.proof.fault.ApplyFault.{ApplyFault}
 use Rattle.mc_document.specs.declared.proof.fault.ApplyFault.TheVariants.{Premise, NoMemory}
 use Rattle.mc_document.specs.Proof.Lines.{ComesTo, cutting_at, heading_at, passing_at, ending_at, rule_at, ruling_at, ruled_at, may_root, is_ready_at, readied, may_head_at, may_pass_at, stands_behind, marks, AnswersAll, TellsFormed}
-use Rattle.mc_document.specs.Proof.Positions.{Position, Stands, Applies, position_of}
+use Rattle.mc_document.specs.Proof.Positions.{Position, Stands, Tries, position_of}
 
 -- ---- premises of what comes of something
 
@@ -177,7 +177,7 @@ module _ (l : Line) (old new : Position) (judge : (k : Knowledge) × (well : Raw
 
   applied : (result : Result Unit ApplyFault)
       → ((k : Knowledge) (well : RawState → Bool) → IsJudge k well old.flow old.defs → ComesTo (read k well old) old new result)
-      → Applies l old new result
+      → Tries l old new result
   applied (Ok done) told = λ k well r s.
       let given = then_ok (position_of old.flow old.defs) (reading_line k well old.flow old.defs l r) new (sym (read_here k well r s) ∙ told k well s.judge) in
       (given.0, given.1, sym given.2)
@@ -188,24 +188,24 @@ module _ (l : Line) (old new : Position) (judge : (k : Knowledge) × (well : Raw
   applied (Err NoMemory) told = tt
 
 module _ (old new : Position) (judge : (k : Knowledge) × (well : RawState → Bool) × IsJudge k well old.flow old.defs) (result : Result Unit ApplyFault) where
-  pub by_cut : (p : PointId) → ComesTo (cutting_at p old) old new result → Applies (line.Cut p) old new result
+  pub by_cut : (p : PointId) → ComesTo (cutting_at p old) old new result → Tries (line.Cut p) old new result
   by_cut p told = applied (line.Cut p) old new judge (λ k well. cutting_at p) (λ k well r. cut_same old.flow old.defs p r) result (λ k well right. told)
 
   pub by_head : (p : PointId) (raw : RawState)
       → ((well : RawState → Bool) → TellsFormed well old.flow old.defs → ComesTo (heading_at well p raw old) old new result)
-      → Applies (line.Head p raw) old new result
+      → Tries (line.Head p raw) old new result
   by_head p raw told =
       applied (line.Head p raw) old new judge (λ k well. heading_at well p raw) (λ k well r. head_same old.flow old.defs well p raw r) result (λ k well right. told well right.formed)
 
-  pub by_pass : ComesTo (passing_at old) old new result → Applies line.Pass old new result
+  pub by_pass : ComesTo (passing_at old) old new result → Tries line.Pass old new result
   by_pass told = applied line.Pass old new judge (λ k well. passing_at) (λ k well r. pass_same old.flow old.defs r) result (λ k well right. told)
 
-  pub by_end : ComesTo (ending_at old) old new result → Applies line.End old new result
+  pub by_end : ComesTo (ending_at old) old new result → Tries line.End old new result
   by_end told = applied line.End old new judge (λ k well. ending_at) (λ k well r. end_same old.flow old.defs r) result (λ k well right. told)
 
   pub by_rule : (l : Line) → is_rule l ≡ true
       → ((k : Knowledge) → AnswersAll k old.flow old.defs → ComesTo (rule_at k l old) old new result)
-      → Applies l old new result
+      → Tries l old new result
   by_rule l rule told =
       applied l old new judge (λ k well. rule_at k l)
       (λ k well r. rule_same old.flow old.defs k l r ∙ ap (then_give (position_of old.flow old.defs)) (reads_rule k well old.flow old.defs l r rule))

@@ -18,6 +18,7 @@ seen p =
       heads = map head_of p.heads.items;
       branches = p.branches;
       stuck = p.stuck;
+      lost = p.lost;
     }
 
 -- the flow graph is valid, and the states of heads and open branches are well made

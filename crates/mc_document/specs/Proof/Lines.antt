@@ -20,7 +20,8 @@ use Rattle.mc_document.specs.declared.proof.fault.ApplyFault.{ApplyFault}
 use Rattle.mc_document.specs.declared.proof.fault.ApplyFault.TheVariants.{Premise, NoMemory}
 use Rattle.mc_document.specs.Proof.Positions.{Position}
 
--- what is judged comes to stand here, or a premise is refused and nothing changes
+-- what is judged comes to stand here, or a premise is refused and nothing changes; where memory is missing, whoever tried
+-- gives it all up (`Applies` of Positions)
 abbrev pub ComesTo : {A : Type 0} → Judged A → A → A → Result Unit ApplyFault → Type 0
 ComesTo judged old new (Ok done) = judged ≡ Ok new
 ComesTo judged old new (Err (Premise k)) = (judged ≡ Err k) × (new ≡ old)

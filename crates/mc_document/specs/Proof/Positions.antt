@@ -1,5 +1,5 @@
 -- Where a document stands of which some lines are read.
-use Rattle.std.specs.Prelude.{◌≡◌, ℕ, Bool, List, Result, Ok, Err, length}
+use Rattle.std.specs.Prelude.{◌≡◌, ℕ, Bool, true, false, List, [], Result, Ok, Err, length}
 use Rattle.mc_base.specs.declared.ids.PointId.{PointId}
 use Rattle.mc_lines.specs.declared.cert.line.Line.{Line}
 use Rattle.mc_flow.specs.declared.defs.rules.Def.{Def}
@@ -16,7 +16,7 @@ use Rattle.mc_document.specs.declared.proof.fault.ApplyFault.TheVariants.{Premis
 use Rattle.mc_document.specs.declared.proof.fault.Complete.{Complete}
 
 -- a flow graph and definitions, a document's form, how far it is read, its cuts, the states of its heads, the branches
--- that are open, the first of them first, and how many are stuck
+-- that are open, the first of them first, how many are stuck, and whether it is lost, as there was no memory for a line
 pub record Position : Type 0 where
   pub flow : Flow
   pub defs : List Def
@@ -26,6 +26,7 @@ pub record Position : Type 0 where
   pub heads : List Head
   pub branches : List Path
   pub stuck : ℕ
+  pub lost : Bool
 
 -- where a document stands: its heads are states, however they were written, and its stuck branches are counted
 abbrev pub position_of : Flow → List Def → Reading → Position
@@ -39,6 +40,7 @@ position_of flow defs r =
       heads = states_of r.heads;
       branches = r.branches;
       stuck = length r.stuck;
+      lost = false;
     }
 
 -- a document that is kept stands here, and this is a right judge
@@ -59,11 +61,25 @@ IsRefusedHere l p premise =
     (k : Knowledge) (well : RawState → Bool) (r : Reading) → Stands k well r p
     → reading_line k well p.flow p.defs l r ≡ Err premise
 
--- a line is applied, or refused where the document stood; where memory is missing nothing is said of where it stands
+-- the document is lost: no branch is open, and it has not ended. It takes no line, and so never ends
+pub record IsLost (p : Position) : Type 0 where
+  pub gone : p.lost ≡ true
+  pub closed : p.branches ≡ []
+  pub unended : p.stage ≡ finished → ⊥
+
+-- a line is applied, or refused where the document stood; or this holds, where memory is missing
+abbrev pub AppliesOr : Type 0 → Line → Position → Position → Result Unit ApplyFault → Type 0
+AppliesOr Missing l old new (Ok done) = IsApplied l old new
+AppliesOr Missing l old new (Err (Premise k)) = IsRefusedHere l old k × (new ≡ old)
+AppliesOr Missing l old new (Err NoMemory) = Missing
+
+-- a line is applied, or refused where the document stood; where memory is missing the document is lost
 abbrev pub Applies : Line → Position → Position → Result Unit ApplyFault → Type 0
-Applies l old new (Ok done) = IsApplied l old new
-Applies l old new (Err (Premise k)) = IsRefusedHere l old k × (new ≡ old)
-Applies l old new (Err NoMemory) = Unit {0}
+Applies l old new result = AppliesOr (IsLost new) l old new result
+
+-- the same of a line that is tried, where nothing is said yet of a document for which memory is missing
+abbrev pub Tries : Line → Position → Position → Result Unit ApplyFault → Type 0
+Tries l old new result = AppliesOr (Unit {0}) l old new result
 
 -- the document has ended, and is of this form with so many stuck branches
 pub record IsComplete (p : Position) (c : Complete) : Type 0 where

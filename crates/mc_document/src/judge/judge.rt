@@ -1,5 +1,5 @@
 // Judges documents that come in pieces.
-ghost use Rattle.std.specs.Prelude.{◌≡◌, ◌≢◌, ◌+◌, ◌++◌, ◌∷◌, [], ℕ, Bool, List, length, IfOk, MatchOption, OnErr, OnOk};
+ghost use Rattle.std.specs.Prelude.{◌≡◌, ◌≢◌, ◌+◌, ◌++◌, ◌∷◌, [], ℕ, Bool, List, length, IfOk, IfSome, MatchOption, OnErr, OnOk};
 ghost use Rattle.mc_lines.specs.Cert.Lines.{lines_of};
 ghost use Rattle.mc_flow.specs.declared.defs.rules.Def.{Def};
 ghost use Rattle.mc_flow.specs.declared.graph.Flow.{Flow as Graph};
@@ -76,6 +76,7 @@ impl<'f> Judge<'f> {
     pub fn feed(&mut self, piece: &[u8]) -> Result<(), NoMemory>
         requires { IsValid self.old.flow.now self.old.defs.now }
         ensures heard { OnOk result (Hears piece.now self.old self.new) }
+        ensures unspent { OnOk result (self.old.stage ≢ Spent) }
         ensures spent { OnErr result (self.new.stage ≡ Spent) }
         ensures same { StaysFor self.old self.new }
     {
@@ -92,6 +93,7 @@ impl<'f> Judge<'f> {
         requires valid { IsValid self.old.flow.now self.old.defs.now }
         requires no_feed { HasNoFeed bytes.now }
         ensures heard { OnOk result (Hears (bytes.now ++ 10 ∷ []) self.old self.new) }
+        ensures unspent { OnOk result (self.old.stage ≢ Spent) }
         ensures spent { OnErr result (self.new.stage ≡ Spent) }
         ensures same { StaysFor self.old self.new }
     {
@@ -115,6 +117,7 @@ impl<'f> Judge<'f> {
     fn hold(&mut self, bytes: &[u8]) -> Result<(), NoMemory>
         requires no_feed { HasNoFeed bytes.now }
         ensures heard { OnOk result (Hears bytes.now self.old self.new) }
+        ensures unspent { OnOk result (self.old.stage ≢ Spent) }
         ensures spent { OnErr result (self.new.stage ≡ Spent) }
         ensures same { StaysFor self.old self.new }
     {
@@ -129,10 +132,11 @@ impl<'f> Judge<'f> {
 
     /// Why the first of the whole lines is refused that is; None exactly where none of them is.
     pub fn refused(&self) -> Option<&Refusal>
-        ensures { (k : Knowledge) (well : RawState → Bool) (text : List ℕ) (texts : List (List ℕ)) (rest : List ℕ)
+        ensures refused { (k : Knowledge) (well : RawState → Bool) (text : List ℕ) (texts : List (List ℕ)) (rest : List ℕ)
             → IsJudge k well self.now.flow.now self.now.defs.now → HasHeard k well text self.now → IsCut text texts rest
             → MatchOption result ((cause : Cause) → IsRefusal k well self.now.flow.now self.now.defs.now texts cause → ⊥)
             (λ cause. IsRefusal k well self.now.flow.now self.now.defs.now texts cause.now) }
+        ensures unspent { IfSome result (λ cause. self.now.stage ≢ Spent) }
     {
         // For the proof alone: what is refused is never read.
         line_is_spelled_once();
@@ -156,6 +160,7 @@ impl<'f> Judge<'f> {
         ensures tells { (k : Knowledge) (well : RawState → Bool) (text : List ℕ)
             → IsJudge k well self.entry.flow.now self.entry.defs.now → HasHeard k well text self.entry
             → IfOk result (Tells self.entry.flow.now self.entry.defs.now text) }
+        ensures unspent { IfOk result (λ verdict. self.entry.stage ≢ Spent) }
     {
         // For the proof alone: which documents are read is known without a judge.
         line_is_spelled_once();
@@ -208,8 +213,9 @@ fn said(complete: &Complete) -> Verdict
 
 /// The verdict where a judge stands at the end of the document.
 fn verdict(stage: &Stage<'_>) -> Result<Verdict, NoMemory>
-    ensures { (k : Knowledge) (well : RawState → Bool) (flow : Graph) (defs : List Def) (texts : List (List ℕ))
+    ensures verdict { (k : Knowledge) (well : RawState → Bool) (flow : Graph) (defs : List Def) (texts : List (List ℕ))
         → IsAt k well flow defs texts stage.now → IfOk result (IsVerdict k well flow defs texts) }
+    ensures unspent { IfOk result (λ verdict. stage.now ≢ Spent) }
 {
     match stage {
         Stage::Unbegun => Ok(Verdict::Refused(Refusal::EndsEarly)),

@@ -1,12 +1,13 @@
 // The open document.
-ghost use Rattle.std.specs.Prelude.{◌≡◌, ◌+◌, Bool, IfOk, IfErr, if◌then◌else◌, option_map};
+ghost use Rattle.std.specs.Prelude.{◌≡◌, ◌+◌, Bool, true, Err, IfOk, IfErr, OnOk, if◌then◌else◌, option_map};
 ghost use Rattle.mc_flow.specs.Valid.{IsValid};
 ghost use Rattle.mc_check_line.specs.Judging.{path};
 ghost use Rattle.mc_kernel.specs.Branches.{roots as all_roots};
 ghost use Rattle.mc_kernel.specs.Judges.{Knowledge};
 ghost use Rattle.mc_kernel.specs.Readings.{begun, finished, first_branch, has_all_heads};
 ghost use Rattle.mc_document.specs.Proof.Lines.{AnswersAll, ComesTo, TellsFormed, cutting_at, ending_at, heading_at, is_ready_at, marks, may_head_at, may_pass_at, passing_at, rule_at, ruled_at, ruling_at};
-ghost use Rattle.mc_document.specs.Proof.Positions.{Applies, IsComplete, position_of};
+ghost use Rattle.mc_document.specs.declared.proof.fault.ApplyFault.TheVariants.{NoMemory};
+ghost use Rattle.mc_document.specs.Proof.Positions.{Applies, IsComplete, IsLost, Tries, position_of};
 ghost use Rattle.mc_state.specs.Fits.{IsWellMade};
 ghost use Rattle.mc_state.specs.RawStates.{state_of};
 ghost use Rattle.mc_state.specs.State.{State as Symbolic};
@@ -39,6 +40,8 @@ pub struct Proof<'f> {
     heads: Vec<Head>,
     branches: Stack,
     stuck: u64,
+    // Whether there was no memory for a line.
+    lost: bool,
 }
 
 /// Drops its parts. What holds one calls this.
@@ -54,6 +57,7 @@ impl Drop for Proof<'_> {
             heads,
             branches,
             stuck: _,
+            lost: _,
         } = self;
         drop(stage);
         drop(cuts);
@@ -90,6 +94,7 @@ impl<'f> Proof<'f> {
             heads: Vec::new(alloc),
             branches: Stack::new(alloc),
             stuck: 0,
+            lost: false,
         }
     }
 
@@ -307,9 +312,9 @@ impl<'f> Proof<'f> {
         }
     }
 
-    /// Applies a line. A refused line changes nothing; without memory the document is of no use.
-    pub fn apply(&mut self, line: &Line) -> Result<(), ApplyFault>
-        ensures { Applies line.now self.old self.new result }
+    /// Tries a line. A refused line changes nothing.
+    fn try_line(&mut self, line: &Line) -> Result<(), ApplyFault>
+        ensures { Tries line.now self.old self.new result }
     {
         // For the proof alone: a right judge tells what stays where a line is refused.
         mc_kernel::oracle::judges_are_there();
@@ -324,9 +329,37 @@ impl<'f> Proof<'f> {
         }
     }
 
-    /// What the document is, where it has ended; else the document again.
+    /// Gives up the document, of which only the cuts and heads are kept.
+    fn lose(&mut self) -> Result<(), ApplyFault>
+        ensures lost { IsLost self.new }
+        ensures fault { result ≡ Err NoMemory }
+    {
+        self.lost = true;
+        self.stage = Stage::Cutting;
+        self.branches = Stack::new(self.alloc);
+        Err(ApplyFault::NoMemory)
+    }
+
+    /// Applies a line. A refused line changes nothing. Without memory the document is lost: no branch is open any more,
+    /// and every later line finds no memory either.
+    pub fn apply(&mut self, line: &Line) -> Result<(), ApplyFault>
+        ensures applies { Applies line.now self.old self.new result }
+        ensures lost { self.old.lost ≡ true → result ≡ Err NoMemory }
+    {
+        if self.lost {
+            return self.lose();
+        }
+        match self.try_line(line) {
+            Ok(()) => Ok(()),
+            Err(ApplyFault::Premise(premise)) => Err(ApplyFault::Premise(premise)),
+            Err(ApplyFault::NoMemory) => self.lose(),
+        }
+    }
+
+    /// What the document is, where it has ended; else the document again, as where it is lost.
     pub fn finish(self) -> Result<Complete, Proof<'f>>
         ensures ok { IfOk result (λ c. IsComplete self.entry c) }
+        ensures lost { OnOk result (IsLost self.entry → ⊥) }
         ensures err { IfErr result (λ p. (p ≡ self.entry) × (self.entry.stage ≡ finished → ⊥)) }
     {
         match self.stage {

@@ -20,10 +20,10 @@ use Rattle.mc_kernel.specs.Branches.{Path, Setting, path_of, path_to, roots, wit
 use Rattle.mc_kernel.specs.Certificates.{IsValidCertificate}
 use Rattle.mc_kernel.specs.Instances.{ByFolding, ByLogic, ByMerging, ByStep, ByUnfolding, IsInstance, Reads, stuck_by}
 use Rattle.mc_kernel.specs.Reading.Documents.{IsShortChain}
-use Rattle.mc_find.specs.Analysis.Findings.{stays}
+use Rattle.mc_find.specs.Analysis.Findings.{stays, under_header}
 
 -- a branch that is not closing: folds close branches in chains alone
-abbrev opened : Path → Path
+abbrev pub opened : Path → Path
 opened b = record b { closing = false }
 
 opened_to : (p : PointId) (s : State) (goal : Option Goal) → opened (path_to p s goal) ≡ path_to p s goal
@@ -40,10 +40,10 @@ opened_states make [] = refl
 opened_states make (s ∷ states) = ap (λ (bs : List Path). opened (make s) ∷ bs) (opened_states make states)
 
 module _ (flow : Flow) (defs : List Def) (cuts : List PointId) where
-  abbrev chain : Setting
+  abbrev pub chain : Setting
   chain = record { form = Chain; cuts = cuts; heads = [] }
 
-  abbrev certificate : Setting
+  abbrev pub certificate : Setting
   certificate = record { form = Certificate; cuts = cuts; heads = [] }
 
   by_step : (rule : InstrRule) (b : Path) (next : List Path) → ByStep rule flow chain b next → ByStep rule flow certificate (opened b) (map opened next)
@@ -68,7 +68,7 @@ module _ (flow : Flow) (defs : List Def) (cuts : List PointId) where
   by_merging keep gone b next (states, rule, gives) = (states, rule, ap (map opened) gives ∙ opened_states _ states)
 
   -- a line that ends no branch as stuck is an instance in the certificate too
-  instance_still : (l : Line) (b : Path) (next later : List Path) → stuck_by l b later ≡ [] → IsInstance flow defs chain l b next
+  pub instance_still : (l : Line) (b : Path) (next later : List Path) → stuck_by l b later ≡ [] → IsInstance flow defs chain l b next
       → IsInstance flow defs certificate l (opened b) (map opened next)
   instance_still (Step rule) b next later none i = by_step rule b next i
   instance_still (L1 edge) b next later none i = by_unfolding _ b next i
@@ -102,7 +102,7 @@ module _ (flow : Flow) (defs : List Def) (cuts : List PointId) where
   instance_still (C2 tries) b next later none i = i
   instance_still (C3 j steps) b next later none i = i
 
-  none_later : (l : Line) (b : Path) (later : List Path) → stuck_by l b later ≡ [] → later ≡ []
+  pub none_later : (l : Line) (b : Path) (later : List Path) → stuck_by l b later ≡ [] → later ≡ []
   none_later C1 b later none = absurd (cc none)
   none_later other b later none = none
 
@@ -143,7 +143,7 @@ cuts_stay : (cuts : List PointId) → filter stays (map Cut cuts) ≡ map Cut cu
 cuts_stay [] = refl
 cuts_stay (p ∷ cuts) = ap (λ (ls : List Line). Cut p ∷ ls) (cuts_stay cuts)
 
-chain_stays : (flow : Flow) (defs : List Def) (g : Setting) (cuts : List PointId) (rules : List Line) (bs stuck : List Path)
+pub chain_stays : (flow : Flow) (defs : List Def) (g : Setting) (cuts : List PointId) (rules : List Line) (bs stuck : List Path)
     → Reads flow defs g rules bs stuck
     → filter stays (Header One Chain ∷ (map Cut cuts ++ (Pass ∷ (rules ++ End ∷ [])))) ≡ map Cut cuts ++ (rules ++ End ∷ [])
 chain_stays flow defs g cuts rules bs stuck r =
@@ -153,7 +153,7 @@ chain_stays flow defs g cuts rules bs stuck r =
 
 -- under the header of a certificate, the lines that stay are one
 pub is_certificate : (flow : Flow) (defs : List Def) (lines : List Line) → IsShortChain flow defs lines []
-    → IsValidCertificate flow defs (Header One Certificate ∷ filter stays lines)
+    → IsValidCertificate flow defs (under_header lines)
 is_certificate flow defs lines c = record {
   cuts = c.cuts;
   heads = [];

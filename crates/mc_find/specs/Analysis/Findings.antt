@@ -1,13 +1,17 @@
 -- What is found of a flow graph.
-use Rattle.std.specs.Prelude.{◌≡◌, ◌<◌, ℕ, Bool, true, false, List, [], length}
+use Rattle.std.specs.Prelude.{◌≡◌, ◌<◌, ◌≤◌, ℕ, Bool, true, false, List, [], ◌∷◌, length}
+use Rattle.std.specs.List.{filter}
 use Rattle.mc_lines.specs.declared.cert.line.Line.{Line}
 use Rattle.mc_lines.specs.declared.cert.line.Line.TheVariants as line
 use Rattle.mc_lines.specs.Cert.Lines.{lines_of}
 use Rattle.mc_flow.specs.declared.defs.rules.Def.{Def}
 use Rattle.mc_flow.specs.declared.graph.Flow.{Flow}
-use Rattle.mc_follow.specs.Alarms.Outcomes.{IsFront}
+use Rattle.mc_follow.specs.Alarms.Outcomes.{IsCrowded}
 use Rattle.mc_follow.specs.Alarms.Walks.{ended_by}
 use Rattle.mc_document.specs.Judge.Verdicts.{SpellAll}
+use Rattle.mc_document.specs.Places.{HasPlaces}
+use Rattle.mc_state.specs.declared.line.Form.TheVariants.{Certificate, Chain}
+use Rattle.mc_state.specs.declared.line.Version.TheVariants.{One}
 use Rattle.mc_kernel.specs.Branches.{Path}
 use Rattle.mc_kernel.specs.Certificates.{IsValidCertificate}
 use Rattle.mc_kernel.specs.Reading.Documents.{IsShortChain}
@@ -16,35 +20,50 @@ use Rattle.mc_find.specs.declared.analysis.analysis.Analysis.{Analysis}
 use Rattle.mc_find.specs.declared.analysis.analysis.Analysis.TheVariants.{Safe, Alarms, Paths, Unknown}
 use Rattle.mc_find.specs.declared.analysis.analysis.Findings.{Findings}
 
--- the document spells a valid certificate, and the report is that of its heads
+-- the lines are a valid certificate as it is found: no more than 65,536 branches are ended, the cuts are the loop heads, and on
+-- side branches no line stands but those that may
+pub record IsFound (flow : Flow) (defs : List Def) (lines : List Line) : Type 0 where
+  pub valid : IsValidCertificate flow defs lines
+  pub within : ended_by lines ≤ 65536
+  pub places : HasPlaces flow defs Certificate lines
+
+-- the document spells a valid certificate as it is found, and the report is that of its heads
 pub record IsProved (flow : Flow) (defs : List Def) (f : Findings) : Type 0 where
   pub lines : List Line
   pub spelled : SpellAll (lines_of f.document.items) lines
   pub valid : IsValidCertificate flow defs lines
+  pub within : ended_by lines ≤ 65536
+  pub places : HasPlaces flow defs Certificate lines
   pub report : IsCertificateReport flow defs valid.heads f.report.items
 
--- the document spells a chain of one pass with so many stuck branches, and the report is that of these
+-- the document spells a chain of one pass with so many stuck branches, of which no more than 65,536 branches are ended, with the
+-- loop heads as its cuts, and the report is that of the stuck branches
 pub record HasAlarms (flow : Flow) (defs : List Def) (f : Findings) (count : ℕ) : Type 0 where
   pub lines : List Line
   pub stuck : List Path
   pub spelled : SpellAll (lines_of f.document.items) lines
   pub chain : IsShortChain flow defs lines stuck
+  pub within : ended_by lines ≤ 65536
+  pub places : HasPlaces flow defs Chain lines
   pub report : IsChainReport flow defs stuck f.report.items
   pub counted : count ≡ length stuck
   pub some : 0 < count
 
--- the document spells the front of a chain of one pass in which more than 65,536 branches are ended
+-- the document spells the front of a chain of one pass, of which the last line ends the 65,537th branch
 pub record HasTooManyPaths (flow : Flow) (defs : List Def) (document : List ℕ) : Type 0 where
   pub lines : List Line
   pub spelled : SpellAll (lines_of document) lines
-  pub front : IsFront flow defs lines
-  pub many : 65536 < ended_by lines
+  pub crowded : IsCrowded flow defs lines
 
 -- a certificate has a line of a chain of one pass too, if it is neither the header nor the pass
 abbrev pub stays : Line → Bool
 stays (line.Header version form) = false
 stays line.Pass = false
 stays other = true
+
+-- the lines of a chain under the header of a certificate, without the pass
+abbrev pub under_header : List Line → List Line
+under_header lines = line.Header One Certificate ∷ filter stays lines
 
 -- what is found; where there are loops, a search may give up
 abbrev pub IsAnalysis : Flow → List Def → Analysis → Type 0

@@ -14,7 +14,7 @@ pub enum Analysis {
     Safe(Findings),
     /// A chain of one pass with so many stuck branches: every run that has a fault comes by one of them.
     Alarms(Findings, u64),
-    /// The front of a chain of one pass in which more than 65,536 branches are ended.
+    /// The front of a chain of one pass, of which the last line ends the 65,537th branch.
     Paths(Vec<u8>),
     /// Nothing was found, of a flow graph with loops.
     Unknown,

@@ -1,12 +1,8 @@
 // How a flow graph is analysed.
-ghost use Rattle.std.specs.Prelude.{◌≡◌, ◌<◌, List, [], IfOk, length};
-ghost use Rattle.mc_follow.specs.Alarms.Outcomes.{IsFront, IsWhole};
-ghost use Rattle.mc_follow.specs.Alarms.Walks.{ended_by};
-ghost use Rattle.mc_flow.specs.declared.defs.rules.Def.{Def};
+ghost use Rattle.std.specs.Prelude.{◌≡◌, ◌<◌, [], IfOk};
+ghost use Rattle.mc_follow.specs.Alarms.Outcomes.{IsCrowded, IsWhole};
 ghost use Rattle.mc_flow.specs.Valid.{IsValid};
-ghost use Rattle.mc_kernel.specs.Certificates.{IsValidCertificate};
-ghost use Rattle.mc_kernel.specs.Reading.Documents.{IsShortChain};
-ghost use Rattle.mc_find.specs.Analysis.Findings.{HasAlarms, HasTooManyPaths, IsAnalysis, IsProved, stays};
+ghost use Rattle.mc_find.specs.Analysis.Findings.{HasAlarms, HasTooManyPaths, IsAnalysis, IsFound, IsProved, stays, under_header};
 
 use crate::analysis::{Analysis, Findings};
 use crate::{Limits, find};
@@ -14,8 +10,11 @@ use mc_base::NoMemory;
 use mc_flow::{Defs, Flow};
 use mc_follow::alarms::{Document, Outcome, alarms};
 use mc_follow::report::certificate_report;
+use mc_kernel::lines_are_judged;
+use mc_kernel::reading::lines_make_well_made;
 use mc_lines::cert::{Form, Line, Version};
 use mc_lines::written::document;
+use mc_state::numbers_stay_bounded;
 use std::alloc::Global;
 
 /// How many lines an attempt may take.
@@ -23,7 +22,7 @@ const LINES: u64 = 20_000;
 
 // The document of a certificate and its report.
 fn proved(alloc: Global, flow: &Flow, defs: &Defs, lines: &[Line]) -> Result<Findings, NoMemory>
-    requires { IsValidCertificate flow.now defs.now lines.now }
+    requires { IsFound flow.now defs.now lines.now }
     ensures { IfOk result (IsProved flow.now defs.now) }
 {
     let report = certificate_report(alloc, flow, defs, lines)?;
@@ -46,8 +45,7 @@ fn alarming(alloc: Global, flow: &Flow, defs: &Defs, chain: Document) -> Result<
 
 // The document of a chain in which too many branches are ended.
 fn crowded(alloc: Global, flow: &Flow, defs: &Defs, lines: &[Line]) -> Result<Vec<u8>, NoMemory>
-    requires front { IsFront flow.now defs.now lines.now }
-    requires many { 65536 < ended_by lines.now }
+    requires { IsCrowded flow.now defs.now lines.now }
     ensures { IfOk result (λ text. HasTooManyPaths flow.now defs.now text.items) }
 {
     let text = document(alloc, lines)?;
@@ -65,10 +63,9 @@ fn stays(line: &Line) -> bool
     }
 }
 
-// The lines of a chain of one pass as those of a certificate, which they are where no branch is stuck.
+// The lines of a chain of one pass under the header of a certificate, which they are where no branch is stuck.
 fn certified(alloc: Global, lines: Vec<Line>) -> Result<Vec<Line>, NoMemory>
-    ensures { IfOk result (λ list. (flow : Flow) (defs : List Def) → IsShortChain flow defs lines.items []
-        → IsValidCertificate flow defs list.items) }
+    ensures { IfOk result (λ list. list.items ≡ under_header lines.items) }
 {
     let mut list = Vec::with_capacity(alloc, lines.len())?;
     list.push(Line::Header(Version::One, Form::Certificate))?;
@@ -82,10 +79,16 @@ fn certified(alloc: Global, lines: Vec<Line>) -> Result<Vec<Line>, NoMemory>
 
 // What a chain without alarms shows: the same lines make a certificate.
 fn calm(alloc: Global, flow: &Flow, defs: &Defs, chain: Document) -> Result<Findings, NoMemory>
+    requires valid { IsValid flow.now defs.now }
+    requires no_loops { flow.now.heads ≡ [] }
     requires chain { IsWhole flow.now defs.now chain }
     requires none { chain.count ≡ 0 }
     ensures { IfOk result (IsProved flow.now defs.now) }
 {
+    // For the proof alone: a line that is an instance in the chain is read in the certificate.
+    numbers_stay_bounded();
+    lines_are_judged();
+    lines_make_well_made();
     let lines = certified(alloc, chain.lines)?;
     proved(alloc, flow, defs, lines.as_slice())
 }

@@ -1,5 +1,5 @@
 -- Chains that are followed line by line.
-use Rattle.std.proofs.Common.{◌≡◌, ◌++◌, ◌∷◌, ◌∙◌, ◌+◌, ◌≤◌, ◌⊎◌, inl, inr, ℕ, List, [], Bool, true, false, Option, Some, None, Contains, option_map, refl, sym, ap, subst, length, append_assoc, arith}
+use Rattle.std.proofs.Common.{◌≡◌, ◌++◌, ◌∷◌, ◌∙◌, ◌+◌, ◌<◌, ◌≤◌, ◌⊎◌, inl, inr, ℕ, List, [], Bool, true, false, Option, Some, None, Contains, option_map, refl, sym, ap, subst, length, append_assoc, arith}
 use Rattle.std.specs.Prelude.{Err, Ok, is_some}
 use Rattle.std.specs.List.{AllByRecursion, list_all}
 use Rattle.std.proofs.lemmas.List.{append-nil}
@@ -26,10 +26,13 @@ use Rattle.mc_kernel.specs.Reading.Documents.{IsAskedHere, IsJudge, IsKept, IsMa
 use Rattle.mc_follow.specs.Report.Report.{AreAlarmLines, IsAlarmLine, count_line}
 use Rattle.mc_follow.specs.Alarms.Laws.{BranchesAreFollowed, DocumentsAreFollowed}
 use Rattle.mc_follow.specs.declared.alarms.outcome.Document.{Document}
-use Rattle.mc_follow.specs.Alarms.Outcomes.{IsFront, IsWhole}
-use Rattle.mc_follow.specs.Alarms.Walks.{AreOpen, IsAtCode, IsAtFirst, IsCodeLine, IsFirstGone, IsFollowed, IsMet, IsNowhere, IsSure, IsTurned, MayApply, ended_by, ending, goes_on}
+use Rattle.mc_follow.specs.declared.alarms.walk.Walk.{Walk}
+use Rattle.mc_follow.specs.Alarms.Outcomes.{IsCrowded, IsOnward, IsWhole}
+use Rattle.mc_follow.specs.Alarms.Walks.{AreOpen, IsAtCode, IsAtFirst, IsCodeLine, IsFirstGone, IsFollowed, IsMet, IsNowhere, IsSure, IsTurned, IsWalk, MayApply, ended_by, ending, goes_on}
 use Rattle.mc_state.specs.declared.goal.Goal.{Goal}
-use Rattle.mc_follow.proofs.AlarmsLemmas.Going.{goes_by_advance, goes_by_rule, goes_unmarked}
+use Rattle.mc_document.specs.Places.{AreInPlace, HasPlaces, cut_of, may_stand}
+use Rattle.mc_document.proofs.PlacesLemmas.{placed_more}
+use Rattle.mc_follow.proofs.AlarmsLemmas.Going.{ends_one, goes_by_advance, goes_by_rule, goes_unmarked, plain_stands, rule_uncut, uncut_more}
 
 -- what holds of a flow graph and definitions holds of equal ones
 move : (P : Flow → List Def → Type 0) (f g : Flow) (d e : List Def) → f ≡ g → d ≡ e → P f d → P g e
@@ -172,17 +175,38 @@ module _ (laws : DocumentsAreFollowed) (flow : Flow) (defs : List Def) (valid : 
   both_open [] cs one two = two
   both_open (b ∷ bs) cs one two = (one.0, both_open bs cs one.1 two)
 
+  -- a line that may stand at the first branch stands where it may
+  placed_more_by : (lines : List Line) (l : Line) (old : Position) (text : List ℕ) (ended : ℕ) → may_stand l old.branches ≡ true
+      → (f : IsFollowed flow defs lines old text ended)
+      → (k : Knowledge) (well : RawState → Bool) → IsJudge k well flow defs → AreInPlace k well flow defs (f.behind ++ l ∷ []) (begun Chain)
+  placed_more_by lines l old text ended may f k well judge =
+      let r = f.reads k well judge in
+      placed_more k well flow defs 2 f.behind l (begun Chain) r.last r.read (f.in_place k well judge)
+      (ap (λ (q : Position). may_stand l q.branches) r.stands.here ∙ may)
+
+  -- so it is in its place in the document
+  places_more : (lines : List Line) (l : Line) (old : Position) (text : List ℕ) (ended : ℕ) → cut_of l ≡ [] → may_stand l old.branches ≡ true
+      → IsFollowed flow defs lines old text ended → HasPlaces flow defs Chain (lines ++ l ∷ [])
+  places_more lines l old text ended uncut may f = record {
+    cuts = uncut_more lines l uncut ∙ f.uncut ∙ sym f.no_loops;
+    sides = record {
+      behind = f.behind ++ l ∷ [];
+      spelled = spelled_more lines f.behind l f.spelled;
+      in_place = placed_more_by lines l old text ended may f;
+    };
+  }
+
   pub goes_further : (more_laws : BranchesAreFollowed) (lines : List Line) (l : Line) (old new : Position) (text : List ℕ) (ended n : ℕ) → goes_on l ≡ true → MayApply l old
-      → IsFollowed flow defs lines old text ended → IsApplied l old new → n ≡ ended + ending l
+      → IsFollowed flow defs lines old text ended → IsApplied l old new → n ≡ ended + ending l → n ≤ 65536
       → IsFollowed flow defs (lines ++ l ∷ []) new text n
-  goes_further more_laws lines l old new text ended n goes fits f applied count =
+  goes_further more_laws lines l old new text ended n goes fits f applied count few =
       let one = laws.judges flow defs valid in
       let r = f.reads one.0 one.1 one.2 in
       let m = more one.0 one.1 one.2 f.behind l r.last old new r.read r.stands f.of_flow f.of_defs applied in
-      let i = ruled_by one.0 one.1 one.2 l r.last old m.next (goes_by_rule l goes) r.stands f.of_flow f.of_defs f.begun m.line_read in
+      let i = ruled_by one.0 one.1 one.2 l r.last old m.next (goes_by_rule l goes) r.stands f.of_flow f.of_defs f.ruled m.line_read in
       let v = moved_by one.0 one.1 one.2 l r.last m.next old new r.stands m.stands i in
       let before : AreOpen flow (i.first ∷ i.others) = subst (AreOpen flow) i.open_are f.open_are in
-      let after : AreOpen flow i.paths = next_open more_laws (setting_at old) l i.first i.paths before.0 (fits i.first i.others i.open_are) i.instance in
+      let after : AreOpen flow i.paths = next_open more_laws (setting_at old) l i.first i.paths before.0 (fits.advance i.first i.others i.open_are) i.instance in
       record {
         form_is = v.form_is ∙ f.form_is;
         no_cuts = v.cuts_are ∙ f.no_cuts;
@@ -192,11 +216,11 @@ module _ (laws : DocumentsAreFollowed) (flow : Flow) (defs : List Def) (valid : 
         spelled = spelled_more lines f.behind l f.spelled;
         of_flow = m.of_flow;
         of_defs = m.of_defs;
-        begun = still_begun one.0 one.1 one.2 m.next new m.stands i.begun_still;
+        ruled = still_begun one.0 one.1 one.2 m.next new m.stands i.begun_still;
         reads = λ k well judge.
             let r = f.reads k well judge in
             let m = more k well judge f.behind l r.last old new r.read r.stands f.of_flow f.of_defs applied in
-            let i = ruled_by k well judge l r.last old m.next (goes_by_rule l goes) r.stands f.of_flow f.of_defs f.begun m.line_read in
+            let i = ruled_by k well judge l r.last old m.next (goes_by_rule l goes) r.stands f.of_flow f.of_defs f.ruled m.line_read in
             let same : r.last.stuck ≡ m.next.stuck =
             sym (i.stuck_are ∙ ap (λ (bs : List Path). r.last.stuck ++ bs) (goes_unmarked l i.first goes) ∙ append-nil r.last.stuck) in
             record {
@@ -206,6 +230,10 @@ module _ (laws : DocumentsAreFollowed) (flow : Flow) (defs : List Def) (valid : 
               alarms = subst (λ (bs : List Path). AreAlarmLines flow defs bs text) same r.alarms;
             };
         counted = count ∙ ap (λ (m : ℕ). m + ending l) f.counted ∙ sym (ended_more lines l);
+        within = few;
+        no_loops = f.no_loops;
+        uncut = uncut_more lines l (rule_uncut l (goes_by_rule l goes)) ∙ f.uncut;
+        in_place = placed_more_by lines l old text ended fits.stands f;
       }
 
   -- what it made of the first branch
@@ -215,19 +243,19 @@ module _ (laws : DocumentsAreFollowed) (flow : Flow) (defs : List Def) (valid : 
       let one = laws.judges flow defs valid in
       let r = f.reads one.0 one.1 one.2 in
       let m = more one.0 one.1 one.2 f.behind l r.last old new r.read r.stands f.of_flow f.of_defs applied in
-      let i = ruled_by one.0 one.1 one.2 l r.last old m.next rule r.stands f.of_flow f.of_defs f.begun m.line_read in
+      let i = ruled_by one.0 one.1 one.2 l r.last old m.next rule r.stands f.of_flow f.of_defs f.ruled m.line_read in
       let v = moved_by one.0 one.1 one.2 l r.last m.next old new r.stands m.stands i in
       record { first = i.first; others = i.others; branches_are = i.open_are; next = i.paths; instance = i.instance; come = v.branches_are }
 
   pub sticks : (lines : List Line) (old new : Position) (text told : List ℕ) (ended n : ℕ) (b : Path)
       → IsFollowed flow defs lines old text ended → Some b ≡ option_map (λ (c : Path × List Path). c.0) (first_branch old.branches)
-      → IsAlarmLine flow defs b.point b.state told → IsApplied line.C1 old new → n ≡ ended + 1
+      → IsAlarmLine flow defs b.point b.state told → IsApplied line.C1 old new → n ≡ ended + 1 → n ≤ 65536
       → IsFollowed flow defs (lines ++ line.C1 ∷ []) new (text ++ told) n
-  sticks lines old new text told ended n b f current is applied count =
+  sticks lines old new text told ended n b f current is applied count few =
       let one = laws.judges flow defs valid in
       let r = f.reads one.0 one.1 one.2 in
       let m = more one.0 one.1 one.2 f.behind line.C1 r.last old new r.read r.stands f.of_flow f.of_defs applied in
-      let i = ruled_by one.0 one.1 one.2 line.C1 r.last old m.next refl r.stands f.of_flow f.of_defs f.begun m.line_read in
+      let i = ruled_by one.0 one.1 one.2 line.C1 r.last old m.next refl r.stands f.of_flow f.of_defs f.ruled m.line_read in
       let v = moved_by one.0 one.1 one.2 line.C1 r.last m.next old new r.stands m.stands i in
       let before : AreOpen flow (i.first ∷ i.others) = subst (AreOpen flow) i.open_are f.open_are in
       let stuck : IsStuck flow defs (setting_at old) i.first i.paths = i.instance in
@@ -240,11 +268,11 @@ module _ (laws : DocumentsAreFollowed) (flow : Flow) (defs : List Def) (valid : 
         spelled = spelled_more lines f.behind line.C1 f.spelled;
         of_flow = m.of_flow;
         of_defs = m.of_defs;
-        begun = still_begun one.0 one.1 one.2 m.next new m.stands i.begun_still;
+        ruled = still_begun one.0 one.1 one.2 m.next new m.stands i.begun_still;
         reads = λ k well judge.
             let r = f.reads k well judge in
             let m = more k well judge f.behind line.C1 r.last old new r.read r.stands f.of_flow f.of_defs applied in
-            let i = ruled_by k well judge line.C1 r.last old m.next refl r.stands f.of_flow f.of_defs f.begun m.line_read in
+            let i = ruled_by k well judge line.C1 r.last old m.next refl r.stands f.of_flow f.of_defs f.ruled m.line_read in
             let own : b ≡ i.first = first_is k well judge old b i.first i.others i.open_are current in
             let same : r.last.stuck ++ b ∷ [] ≡ m.next.stuck =
             ap (λ (c : Path). r.last.stuck ++ c ∷ []) own ∙ sym i.stuck_are in
@@ -255,6 +283,37 @@ module _ (laws : DocumentsAreFollowed) (flow : Flow) (defs : List Def) (valid : 
               alarms = subst (λ (bs : List Path). AreAlarmLines flow defs bs (text ++ told)) same (alarm_more flow defs r.last.stuck b text told r.alarms is);
             };
         counted = count ∙ ap (λ (m : ℕ). m + 1) f.counted ∙ sym (ended_more lines line.C1);
+        within = few;
+        no_loops = f.no_loops;
+        uncut = uncut_more lines line.C1 refl ∙ f.uncut;
+        in_place = placed_more_by lines line.C1 old text ended (plain_stands line.C1 old.branches i.others i.first i.open_are stuck.plain) f;
+      }
+
+  -- the line that ends the 65,537th branch is the last
+  pub crowds : (lines : List Line) (l : Line) (old new : Position) (text : List ℕ) (ended n : ℕ) → is_rule l ≡ true → may_stand l old.branches ≡ true
+      → IsFollowed flow defs lines old text ended → IsApplied l old new → n ≡ ended + ending l → 65536 < n
+      → IsCrowded flow defs (lines ++ l ∷ [])
+  crowds lines l old new text ended n rule may f applied count many =
+      let own : ended ≡ ended_by lines = f.counted in
+      let few : ended ≤ 65536 = f.within in
+      let one : ending l ≤ 1 = ends_one l in
+      let more_ended : ended_by (lines ++ l ∷ []) ≡ ended_by lines + ending l = ended_more lines l in
+      record {
+        front = record {
+          behind = f.behind ++ l ∷ [];
+          spelled = spelled_more lines f.behind l f.spelled;
+          reads = λ k well judge.
+              let r = f.reads k well judge in
+              let m = more k well judge f.behind l r.last old new r.read r.stands f.of_flow f.of_defs applied in
+              let i = ruled_by k well judge l r.last old m.next rule r.stands f.of_flow f.of_defs f.ruled m.line_read in
+              record { last = m.next; read = m.read; not_ended = λ e. (let clash : ruling ≡ finished = sym i.begun_still ∙ e in cc clash) };
+        };
+        before = lines;
+        last = l;
+        last_is = refl;
+        before_last = omega (arith, own, few, one, count, many);
+        with_last = omega (arith, own, few, one, count, many, more_ended);
+        places = places_more lines l old text ended (rule_uncut l rule) may f;
       }
 
   -- ---- the pass
@@ -277,9 +336,9 @@ module _ (laws : DocumentsAreFollowed) (flow : Flow) (defs : List Def) (valid : 
         branches_are = sym (ap (λ (r : Reading). r.branches) same);
       }
 
-  pub starts : (old new : Position) → old ≡ position_of flow defs (begun Chain) → IsApplied line.Pass old new
+  pub starts : flow.heads ≡ [] → (old new : Position) → old ≡ position_of flow defs (begun Chain) → IsApplied line.Pass old new
       → IsFollowed flow defs (line.Header One Chain ∷ line.Pass ∷ []) new [] 0
-  starts old new is applied =
+  starts no_loops old new is applied =
       let pf : old.flow ≡ flow = ap (λ (p : Position). p.flow) is in
       let pd : old.defs ≡ defs = ap (λ (p : Position). p.defs) is in
       let stand : (k : Knowledge) (well : RawState → Bool) → IsJudge k well flow defs → Stands k well (begun Chain) old =
@@ -296,7 +355,7 @@ module _ (laws : DocumentsAreFollowed) (flow : Flow) (defs : List Def) (valid : 
         spelled = refl;
         of_flow = m.of_flow;
         of_defs = m.of_defs;
-        begun = still_begun one.0 one.1 one.2 m.next new m.stands i.stage;
+        ruled = still_begun one.0 one.1 one.2 m.next new m.stands i.stage;
         reads = λ k well judge.
             let m = more k well judge [] line.Pass (begun Chain) old new refl (stand k well judge) pf pd applied in
             let i = passed k well m.next m.line_read in
@@ -307,6 +366,10 @@ module _ (laws : DocumentsAreFollowed) (flow : Flow) (defs : List Def) (valid : 
               alarms = subst (λ (bs : List Path). AreAlarmLines flow defs bs []) (sym i.none) refl;
             };
         counted = refl;
+        within = omega arith;
+        no_loops = no_loops;
+        uncut = refl;
+        in_place = λ k well judge. (refl, λ next read. tt);
       }
 
   -- it begins with the entry alone
@@ -367,7 +430,7 @@ module _ (laws : DocumentsAreFollowed) (flow : Flow) (defs : List Def) (valid : 
       let one = laws.judges flow defs valid in
       let r = f.reads one.0 one.1 one.2 in
       let m = more one.0 one.1 one.2 f.behind line.End r.last old new r.read r.stands f.of_flow f.of_defs applied in
-      let i = ends_in r.last m.next r.last.stage (stage_is one.0 one.1 one.2 r.last old r.stands f.begun) m.line_read in
+      let i = ends_in r.last m.next r.last.stage (stage_is one.0 one.1 one.2 r.last old r.stands f.ruled) m.line_read in
       record {
         stuck = r.last.stuck;
         chain = subst (λ (ls : List Line). IsShortChain flow defs ls r.last.stuck) (sym (spelled_more lines f.behind line.End f.spelled))
@@ -392,26 +455,15 @@ module _ (laws : DocumentsAreFollowed) (flow : Flow) (defs : List Def) (valid : 
       move (λ (h : Flow) (d : List Def). reading_line k well h d line.End last ≡ Err premise) old.flow flow old.defs defs f.of_flow f.of_defs (refused k well last r.stands) in
       let begun_still : reading_line k well flow defs line.End last ≡ need 3 (has_no_branch last.branches) (Ok new) =
       ap (λ (s : Stage). have 1 (ready flow last s) (λ (t : Reading). need 3 (has_no_branch t.branches) (Ok (record t { stage = finished }))))
-      (stage_is k well one.2 last old r.stands f.begun) in
+      (stage_is k well one.2 last old r.stands f.ruled) in
       let none_open : ◌≡◌ {A = Judged Reading} (need 3 (has_no_branch last.branches) (Ok new)) (Ok new) =
       ap (λ (bs : List Path). need 3 (has_no_branch bs) (Ok new)) (ap (λ (q : Position). q.branches) r.stands.here ∙ none) in
       let clash : ◌≡◌ {A = Judged Reading} (Ok new) (Err premise) = sym (begun_still ∙ none_open) ∙ no_line in
       cc clash
 
--- the lines so far are all read
-pub is_front : (flow : Flow) (defs : List Def) (lines : List Line) (p : Position) (text : List ℕ) (ended : ℕ) → IsFollowed flow defs lines p text ended → IsFront flow defs lines
-is_front flow defs lines p text ended f = record {
-  behind = f.behind;
-  spelled = f.spelled;
-  reads = λ k well judge.
-      let r = f.reads k well judge in
-      record {
-        last = r.last;
-        read = r.read;
-        not_ended = λ e.
-            let clash : ruling ≡ finished = sym (ap (λ (q : Position). q.stage) r.stands.here ∙ f.begun) ∙ e in cc clash;
-      };
-}
+-- a walk that has followed its lines may go on
+pub stays_onward : (flow : Flow) (defs : List Def) (walk : Walk) → IsWalk flow defs walk → IsOnward flow defs walk
+stays_onward flow defs walk f = (λ few. f, λ many. (let few : walk.ended ≤ 65536 = f.within in absurd (omega (arith, few, many))))
 
 -- for equal lines and texts
 pub same_followed : (flow : Flow) (defs : List Def) (lines own : List Line) (p : Position) (text mine : List ℕ) (ended : ℕ) → own ≡ lines → mine ≡ text
@@ -471,7 +523,7 @@ module _ (laws : DocumentsAreFollowed) (flow : Flow) (defs : List Def) (lines : 
       let well = one.1 in
       let r = f.reads k well one.2 in
       let last = r.last in
-      let stage : last.stage ≡ ruling = ap (λ (q : Position). q.stage) r.stands.here ∙ f.begun in
+      let stage : last.stage ≡ ruling = ap (λ (q : Position). q.stage) r.stands.here ∙ f.ruled in
       let kept : IsKept flow defs last = move (λ (h : Flow) (d : List Def). IsKept h d last) p.flow flow p.defs defs f.of_flow f.of_defs r.stands.kept in
       let new : Reading = record last { branches = next ++ others; stuck = last.stuck ++ marked l b } in
       let at : IsReadAt flow defs l last new = record {
@@ -542,7 +594,7 @@ module _ (laws : DocumentsAreFollowed) (flow : Flow) (defs : List Def) (lines : 
           let such : advances l ≡ true = subst (λ (m : Line). advances m ≡ true) same r.is_such in
           record {
             goes = goes_by_advance l such;
-            may = λ c others is plain. such;
+            may = record { advance = λ c others is plain. such; stands = plain_stands l p.branches at.others b at.branches_are at.plain };
             there = λ none. none b at.others r.next at.branches_are (subst (λ (m : Line). IsInstance flow defs (setting_at p) m b r.next) same r.instance);
           }
 
@@ -558,7 +610,7 @@ module _ (laws : DocumentsAreFollowed) (flow : Flow) (defs : List Def) (lines : 
         is_line b at.others t.know at.branches_are t.tells ∙ r.is,
         record {
           goes = goes_by_advance r.line r.is_such;
-          may = λ c others is plain. r.is_such;
+          may = record { advance = λ c others is plain. r.is_such; stands = plain_stands r.line p.branches at.others b at.branches_are at.plain };
           there = λ none. none b at.others r.next at.branches_are r.instance;
         },
       )
@@ -593,11 +645,12 @@ pub refused_stays : (flow : Flow) (defs : List Def) (lines : List Line) (old new
 refused_stays flow defs lines old new text ended e f = subst (λ (p : Position). IsFollowed flow defs lines p text ended) (sym e) f
 
 pub whole_is : (laws : DocumentsAreFollowed) (flow : Flow) (defs : List Def) (lines : List Line) (old new : Position) (text : List ℕ) (ended count : ℕ)
-    (d : Document) → IsFollowed flow defs lines old text ended → ended ≤ 65536 → IsApplied line.End old new → count ≡ new.stuck
+    (d : Document) → IsFollowed flow defs lines old text ended → old.branches ≡ [] → IsApplied line.End old new → count ≡ new.stuck
     → d.lines.items ≡ lines ++ line.End ∷ [] → d.text.items ≡ text ++ count_line count → d.count ≡ count → IsWhole flow defs d
-whole_is laws flow defs lines old new text ended count d f within applied is_count is_lines is_text is_own =
+whole_is laws flow defs lines old new text ended count d f none applied is_count is_lines is_text is_own =
     let h = ends laws flow defs f.valid lines old new text ended f applied in
     let counted : count ≡ length h.stuck = is_count ∙ h.counted in
+    let within : ended ≤ 65536 = f.within in
     let own : ended ≡ ended_by lines = f.counted in
     let last : ended_by (lines ++ line.End ∷ []) ≡ ended_by lines + 0 = ended_more lines line.End in
     let all : ended_by d.lines.items ≡ ended_by (lines ++ line.End ∷ []) = ap ended_by is_lines in
@@ -607,4 +660,5 @@ whole_is laws flow defs lines old new text ended count d f within applied is_cou
       report = (text, h.alarms, is_text ∙ ap (λ (n : ℕ). text ++ count_line n) counted);
       counted = is_own ∙ counted;
       within = omega (arith, within, own, last, all);
+      places = subst (HasPlaces flow defs Chain) (sym is_lines) (places_more laws flow defs f.valid lines line.End old text ended refl (ap (may_stand line.End) none) f);
     }

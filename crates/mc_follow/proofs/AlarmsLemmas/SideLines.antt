@@ -36,8 +36,10 @@ use Rattle.mc_state.specs.State.{State, next_node}
 use Rattle.mc_state.specs.Terms.{plain}
 use Rattle.mc_follow.specs.Alarms.Laws.{DocumentsAreFollowed}
 use Rattle.mc_follow.specs.Alarms.Sides.{AreMarksMet, AreMetsOf, AreToName, GoesOn, HasMet, HasName, HaveNames, IsAtGoal, IsAtMark, IsAtMarks, IsBegun, IsDone, IsKnownWritten, IsLastEdge, IsMarkMet, IsNamedSide, IsNextNode, IsSide, IsSound, IsToName, IsUnderway, IsWrong, MayName, MayNameAll, PushesLast, TellsFalse, TellsSound}
+use Rattle.mc_document.specs.Places.{may_stand_aside}
 use Rattle.mc_follow.specs.Alarms.Walks.{AreOpen, IsAtCovered, IsCovered, IsFirstGone, IsFollowed, IsSure, IsTurned, goes_on}
 use Rattle.mc_follow.proofs.AlarmsLemmas.Followed.{current_at, current_is, goes_away, told}
+use Rattle.mc_follow.proofs.AlarmsLemmas.Going.{aside_stands}
 
 -- ---- the first branch
 
@@ -74,10 +76,13 @@ is_wrong p goal s others on e side sound = record { goal = goal; state = s; side
 
 -- a line that goes on and is an instance at a side branch is surely read
 side_sure : (flow : Flow) (defs : List Def) (l : Line) (p : Position) (b : Path) (others : List Path) (goal : Goal) → p.branches ≡ b ∷ others → b.goal ≡ Some goal → goes_on l ≡ true
-    → (next : List Path) → IsInstance flow defs (setting_at p) l b next → IsSure flow defs l p
-side_sure flow defs l p b others goal are is goes next i = record {
+    → may_stand_aside l ≡ true → (next : List Path) → IsInstance flow defs (setting_at p) l b next → IsSure flow defs l p
+side_sure flow defs l p b others goal are is goes aside next i = record {
   goes = goes;
-  may = λ c cs there plain. (let same = same_first c b cs others (sym there ∙ are) in absurd (not_plain b goal is (subst IsPlain same.0 plain)));
+  may = record {
+    advance = λ c cs there plain. (let same = same_first c b cs others (sym there ∙ are) in absurd (not_plain b goal is (subst IsPlain same.0 plain)));
+    stands = aside_stands l p.branches aside;
+  };
   there = λ none. none b others next are i;
 }
 
@@ -94,9 +99,9 @@ pub record KeepsSide (put : Putting) : Type 0 where
 module _ (flow : Flow) (defs : List Def) (l : Line) (old : Position) (goal : Goal) (s : State) (others : List Path) (side : IsSide old goal s others)
     (Rule : State → List State → Type 0) (Then : State → Type 0) (put : Putting) (g : Gives (Rule s) Then) where
   -- it is an instance
-  logic_sure : goes_on l ≡ true → ((states : List State) → Rule side.first.state states → IsInstance flow defs (setting_at old) l side.first (map (put side.first) states)) → IsSure flow defs l old
-  logic_sure goes is =
-      side_sure flow defs l old side.first others goal side.branches_are side.goal_is goes (map (put side.first) g.0.0)
+  logic_sure : goes_on l ≡ true → may_stand_aside l ≡ true → ((states : List State) → Rule side.first.state states → IsInstance flow defs (setting_at old) l side.first (map (put side.first) states)) → IsSure flow defs l old
+  logic_sure goes aside is =
+      side_sure flow defs l old side.first others goal side.branches_are side.goal_is goes aside (map (put side.first) g.0.0)
       (is g.0.0 (subst (λ (t : State). Rule t g.0.0) (sym side.state_is) g.0.1))
 
   -- and what it gives is a side branch with the same goal
@@ -130,7 +135,7 @@ folding_keeps p = record { state = λ b s. refl; goal = λ b s. refl }
 module _ (made : GoalsAreMade) (flow : Flow) (defs : List Def) (w : Task) (others : List Path) (old : Position) (begun : IsBegun flow defs w others old) where
   pub zero_sure : IsSure flow defs (L8 null (pos 0) Ptr) old
   zero_sure =
-      logic_sure flow defs (L8 null (pos 0) Ptr) old w.goal w.before others begun.side (NamesSpare null (pos 0) Ptr) _ (folding old) (made.known flow.structs.list defs flow.vars w begun.task).1 refl
+      logic_sure flow defs (L8 null (pos 0) Ptr) old w.goal w.before others begun.side (NamesSpare null (pos 0) Ptr) _ (folding old) (made.known flow.structs.list defs flow.vars w begun.task).1 refl refl
       (λ states r. (states, r, refl))
 
   abbrev IsForgotten : State → Type 0
@@ -151,7 +156,7 @@ module _ (made : GoalsAreMade) (flow : Flow) (defs : List Def) (w : Task) (other
 
       pub forget_sure : IsSure flow defs (L11 (next_node w.before)) mid
       forget_sure =
-          logic_sure flow defs (L11 (next_node w.before)) mid w.goal zero_came.0 others zero_came.1 (ForgetsNode (next_node w.before)) _ with_state forgets refl
+          logic_sure flow defs (L11 (next_node w.before)) mid w.goal zero_came.0 others zero_came.1 (ForgetsNode (next_node w.before)) _ with_state forgets refl refl
           (λ states r. (names_not zero_came.1.first.goal zero_came.1.goal_is, (states, r, refl)))
 
       pub forget_came : (new : Position) → IsTurned flow defs (L11 (next_node w.before)) mid new → (on : Bool) → TellsSound new on → (front : List Met) → AreOpened defs w front
@@ -167,7 +172,7 @@ module _ (made : GoalsAreMade) (flow : Flow) (defs : List Def) (old : Position) 
     (bounded : IsBounded s) (to : IsToName goal s others old kind t) where
   pub name_sure : IsSure flow defs (L8 t.node t.add kind) old
   name_sure =
-      logic_sure flow defs (L8 t.node t.add kind) old goal s others to.side (NamesSpare t.node t.add kind) _ (folding old) (made.name s kind t bounded to.consistent to.may) refl
+      logic_sure flow defs (L8 t.node t.add kind) old goal s others to.side (NamesSpare t.node t.add kind) _ (folding old) (made.name s kind t bounded to.consistent to.may) refl refl
       (λ states r. (states, r, refl))
 
   pub name_came : (new : Position) → IsTurned flow defs (L8 t.node t.add kind) old new → (u : State) × IsSide new goal u others × (IsNamedOn s u × IsNamed u kind t (next_node s))
@@ -322,7 +327,7 @@ module _ (made : GoalsAreMade) (flow : Flow) (defs : List Def) (w : Task) (other
           same_edges b c bs cs e = (cc e, cc e)
 
       pub seg_sure : IsSure flow defs (L5 seg rest) old
-      seg_sure = logic_sure flow defs (L5 seg rest) old w.goal under.state others under.side (ClosesSeg seg rest) _ (folding old) gives refl (λ states r. (states, r, refl))
+      seg_sure = logic_sure flow defs (L5 seg rest) old w.goal under.state others under.side (ClosesSeg seg rest) _ (folding old) gives refl refl (λ states r. (states, r, refl))
 
       pub seg_met : (new : Position) → IsTurned flow defs (L5 seg rest) old new → (on : Bool) → TellsSound new on → (some more : List EdgeId) → reverse some ≡ left → PushesLast new some more
           → GoesOn flow defs w others new front (reverse more) on
@@ -369,7 +374,7 @@ module _ (made : GoalsAreMade) (flow : Flow) (defs : List Def) (w : Task) (other
 
           pub fold_sure : IsSure flow defs (L3 (ind_fold met.goal.pred place nodes block own)) mid
           fold_sure =
-              logic_sure flow defs (L3 (ind_fold met.goal.pred place nodes block own)) mid w.goal then_named.0 others then_named.1.side (FoldsInd defs (ind_fold met.goal.pred place nodes block own)) _ (folding mid) folds refl
+              logic_sure flow defs (L3 (ind_fold met.goal.pred place nodes block own)) mid w.goal then_named.0 others then_named.1.side (FoldsInd defs (ind_fold met.goal.pred place nodes block own)) _ (folding mid) folds refl refl
               (λ states r. (states, r, refl))
 
           pub fold_met : (new : Position) → IsTurned flow defs (L3 (ind_fold met.goal.pred place nodes block own)) mid new → (on : Bool) → TellsSound new on → (some more : List EdgeId) → reverse some ≡ left
@@ -391,12 +396,12 @@ last_met made flow defs w others p ids u =
 -- the line that ends a side branch
 pub done_sure : (flow : Flow) (defs : List Def) (p : Position) (others : List Path) (edge : EdgeId) → IsDone p others edge → IsSure flow defs (L14 edge) p
 done_sure flow defs p others edge d =
-    side_sure flow defs (L14 edge) p d.side.first others d.goal d.side.branches_are d.side.goal_is refl []
+    side_sure flow defs (L14 edge) p d.side.first others d.goal d.side.branches_are d.side.goal_is refl refl []
     (record { goal = d.goal; side = d.side.goal_is; meets = subst (λ (s : State). MeetsGoal d.goal edge s) (sym d.side.state_is) d.meets; gives = refl })
 
 pub wrong_sure : (flow : Flow) (defs : List Def) (p : Position) (others : List Path) → AreOpen flow p.branches → IsWrong p others → IsSure flow defs L12 p
 wrong_sure flow defs p others open_are x =
-    side_sure flow defs L12 p x.side.first others x.goal x.side.branches_are x.side.goal_is refl []
+    side_sure flow defs L12 p x.side.first others x.goal x.side.branches_are x.side.goal_is refl refl []
     ((subst (AreOpen flow) x.side.branches_are open_are).0.1, subst IsFalse (sym x.side.state_is) x.wrong, refl)
 
 pub done_gone : (flow : Flow) (defs : List Def) (p new : Position) (others : List Path) (edge : EdgeId) → IsDone p others edge → IsTurned flow defs (L14 edge) p new → new.branches ≡ others

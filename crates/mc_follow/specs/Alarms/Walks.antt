@@ -1,5 +1,5 @@
 -- A chain that is being written.
-use Rattle.std.specs.Prelude.{◌≡◌, ◌+◌, ℕ, Bool, true, false, List, [], ◌∷◌, ◌++◌, Option, Some, None, Ok, map, option_and_then}
+use Rattle.std.specs.Prelude.{◌≡◌, ◌+◌, ◌≤◌, ℕ, Bool, true, false, List, [], ◌∷◌, ◌++◌, Option, Some, None, Ok, map, option_and_then}
 use Rattle.std.specs.List.{AllByRecursion}
 use Rattle.mc_base.specs.declared.plain.Kind.TheVariants.{Ptr}
 use Rattle.mc_state.specs.declared.line.InstrRule.TheVariants.{S17}
@@ -21,11 +21,12 @@ use Rattle.mc_state.specs.Terms.{plain}
 use Rattle.mc_kernel.specs.Branches.{IsPlain, Path}
 use Rattle.mc_kernel.specs.Instances.{IsInstance}
 use Rattle.mc_kernel.specs.Judges.{Knowledge}
-use Rattle.mc_kernel.specs.Readings.{Reading, ruling}
+use Rattle.mc_kernel.specs.Readings.{Reading, begun, ruling}
 use Rattle.mc_kernel.specs.Reading.Documents.{IsJudge, reading_document}
 use Rattle.mc_state.specs.Known.{Test, Tells}
 use Rattle.mc_kernel.specs.Progress.Asked.{at_code, false_or_null}
 use Rattle.mc_kernel.specs.Progress.Progress.{IsInside, advances}
+use Rattle.mc_document.specs.Places.{AreInPlace, cuts_of, may_stand}
 use Rattle.mc_document.specs.Proof.Lines.{setting_at}
 use Rattle.mc_document.specs.Proof.Positions.{Position, Stands}
 use Rattle.mc_follow.specs.Report.Report.{AreAlarmLines}
@@ -47,7 +48,9 @@ goes_on line.End = false
 goes_on line.C1 = false
 goes_on other = true
 
--- how many branches a line ends, whatever rules a predicate has
+-- how many branches a line ends: one at the program's end, where the state is inconsistent, at a jump, where a goal is met, and
+-- where an instruction is stuck. No line ends two, since it is read at one branch, and all others leave a branch at least: an
+-- unfolding leaves one for each rule of its predicate, of which valid definitions have one or more
 abbrev pub ending : Line → ℕ
 ending (line.Step S17) = 1
 ending line.L12 = 1
@@ -96,17 +99,21 @@ pub record IsReadTo (k : Knowledge) (well : RawState → Bool) (flow : Flow) (de
   pub stands : Stands k well last p
   pub alarms : AreAlarmLines flow defs last.stuck text
 
--- the lines are those of a chain of a valid flow graph, which is read up to here after its pass, with so many ended
--- branches
+-- the lines are those of a chain of a valid flow graph without loops, each where it may stand, which is read up to here after its
+-- pass, with so many ended branches, which are not too many
 pub record IsFollowed (flow : Flow) (defs : List Def) (lines : List Line) (p : Position) (text : List ℕ) (ended : ℕ) : Type 0 where
   pub valid : IsValid flow defs
   pub behind : List Line
   pub spelled : lines ≡ line.Header One Chain ∷ behind
   pub of_flow : p.flow ≡ flow
   pub of_defs : p.defs ≡ defs
-  pub begun : p.stage ≡ ruling
+  pub ruled : p.stage ≡ ruling
   pub reads : (k : Knowledge) (well : RawState → Bool) → IsJudge k well flow defs → IsReadTo k well flow defs behind p text
   pub counted : ended ≡ ended_by lines
+  pub within : ended ≤ 65536
+  pub no_loops : flow.heads ≡ []
+  pub uncut : cuts_of lines ≡ []
+  pub in_place : (k : Knowledge) (well : RawState → Bool) → IsJudge k well flow defs → AreInPlace k well flow defs behind (begun Chain)
   pub form_is : p.form ≡ Chain
   pub no_cuts : p.cuts ≡ []
   pub open_are : AreOpen flow p.branches
@@ -148,9 +155,10 @@ IsAct p EndSide = IsAtSide p
 IsAct p Code = IsAtCode p
 IsAct p Rest = p.branches ≡ []
 
--- a line advances it, where it is no side branch
-abbrev pub MayApply : Line → Position → Type 0
-MayApply l p = (b : Path) (others : List Path) → p.branches ≡ b ∷ others → IsPlain b → advances l ≡ true
+-- a line may be tried: it advances the first branch, where that is no side branch, and may stand there, where it is one
+pub record MayApply (l : Line) (p : Position) : Type 0 where
+  pub advance : (b : Path) (others : List Path) → p.branches ≡ b ∷ others → IsPlain b → advances l ≡ true
+  pub stands : may_stand l p.branches ≡ true
 
 -- a line is no instance there
 abbrev pub IsNowhere : Flow → List Def → Line → Position → Type 0

@@ -1,6 +1,7 @@
 // Lines that are added to a chain.
 ghost use Rattle.std.specs.Prelude.{◌≡◌, ◌+◌, [], IfOk, OnOk, true, false};
-ghost use Rattle.mc_follow.specs.Alarms.Walks.{AreCovered, IsAtCode, IsFirstGone, IsMet, IsNowhere, IsSure, IsTurned, IsWalk, MayApply, goes_on};
+ghost use Rattle.mc_follow.specs.Alarms.Outcomes.{IsOnward};
+ghost use Rattle.mc_follow.specs.Alarms.Walks.{AreCovered, IsAtCode, IsFirstGone, IsMet, IsNowhere, IsSure, IsTurned, IsWalk, MayApply, ending, goes_on};
 ghost use Rattle.mc_flow.specs.Valid.{IsValid};
 
 use crate::alarms::laws::{branches_are_followed, documents_are_followed};
@@ -57,7 +58,8 @@ impl<'f> Walk<'f> {
     pub fn apply(&mut self, flow: &Flow, defs: &Defs, line: Line) -> Result<bool, NoMemory>
         requires followed { IsWalk flow.now defs.now self.old }
         requires may { MayApply line self.old.proof }
-        ensures follows { OnOk result (IsWalk flow.now defs.now self.new) }
+        ensures follows { OnOk result (IsOnward flow.now defs.now self.new) }
+        ensures counted { IfOk result (λ applied. applied ≡ true → self.new.ended ≡ self.old.ended + ending line) }
         ensures refused { IfOk result (λ applied. applied ≡ false
             → (self.new.proof ≡ self.old.proof) × (goes_on line ≡ true → IsNowhere flow.now defs.now line self.old.proof)) }
         ensures turned { IfOk result (λ applied. applied ≡ true → IsTurned flow.now defs.now line self.old.proof self.new.proof) }
@@ -84,7 +86,8 @@ impl<'f> Walk<'f> {
     pub fn turn(&mut self, flow: &Flow, defs: &Defs, line: Line) -> Result<(), NoMemory>
         requires followed { IsWalk flow.now defs.now self.old }
         requires sure { IsSure flow.now defs.now line self.old.proof }
-        ensures follows { OnOk result (IsWalk flow.now defs.now self.new) }
+        ensures follows { OnOk result (IsOnward flow.now defs.now self.new) }
+        ensures counted { OnOk result (self.new.ended ≡ self.old.ended + ending line) }
         ensures turned { OnOk result (IsTurned flow.now defs.now line self.old.proof self.new.proof) }
     {
         if self.apply(flow, defs, line)? {
@@ -99,7 +102,8 @@ impl<'f> Walk<'f> {
     pub fn stick(&mut self, flow: &Flow, defs: &Defs) -> Result<bool, NoMemory>
         requires followed { IsWalk flow.now defs.now self.old }
         requires here { IsAtCode self.old.proof }
-        ensures follows { OnOk result (IsWalk flow.now defs.now self.new) }
+        ensures follows { OnOk result (IsOnward flow.now defs.now self.new) }
+        ensures still { IfOk result (λ stuck. stuck ≡ false → IsWalk flow.now defs.now self.new) }
         ensures met { IfOk result (λ stuck. stuck ≡ false
             → (self.new.proof ≡ self.old.proof) × IsMet flow.now defs.now self.old.proof) }
         ensures gone { IfOk result (λ stuck. stuck ≡ true → IsFirstGone self.old.proof self.new.proof) }

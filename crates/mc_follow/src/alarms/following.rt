@@ -1,9 +1,11 @@
 // How branches are followed.
 ghost use Rattle.std.specs.Prelude.{◌≡◌, ◌<◌, ◌≤◌, [], true, false, IfOk, OnOk};
+ghost use Rattle.mc_follow.specs.Alarms.Outcomes.{IsCrowded, IsOnward};
 ghost use Rattle.mc_follow.specs.Alarms.Walks.{AreCovered, IsAct, IsAtCode, IsAtFirst, IsCodeLine, IsWalk};
 ghost use Rattle.mc_follow.specs.declared.alarms.walk.Turn.TheVariants.{On, Whole};
 
 use crate::alarms::laws::{assertions_are_covered, branches_are_followed, documents_are_followed};
+use crate::alarms::lines::PATHS;
 use crate::alarms::walk::{Turn, Walk};
 use mc_apply_steps::instructions::code_at;
 use mc_base::NoMemory;
@@ -11,9 +13,6 @@ use mc_find_paths::next::{at_code, false_or_null};
 use mc_flow::{Defs, Flow};
 use mc_lines::cert::Line;
 use std::alloc::AllocError;
-
-/// More branches than these may not end.
-const PATHS: u64 = 65536;
 
 /// What the first branch asks for.
 #[derive(Drop)]
@@ -63,7 +62,7 @@ impl Walk<'_> {
         requires followed { IsWalk flow.now defs.now self.old }
         requires covered { AreCovered defs.now self.old.proof.branches }
         requires here { IsAtCode self.old.proof }
-        ensures follows { OnOk result (IsWalk flow.now defs.now self.new) }
+        ensures follows { OnOk result (IsOnward flow.now defs.now self.new) }
         ensures covered { OnOk result (AreCovered defs.now self.new.proof.branches) }
     {
         // For the proof alone: the line that is asked for is an instance, and what it asserts has a cover.
@@ -88,7 +87,7 @@ impl Walk<'_> {
         requires followed { IsWalk flow.now defs.now self.old }
         requires covered { AreCovered defs.now self.old.proof.branches }
         requires here { IsAtFirst line self.old.proof }
-        ensures follows { OnOk result (IsWalk flow.now defs.now self.new) }
+        ensures follows { OnOk result (IsOnward flow.now defs.now self.new) }
         ensures covered { OnOk result (AreCovered defs.now self.new.proof.branches) }
     {
         // For the proof alone: the line that is asked for is an instance, and asserts nothing.
@@ -103,7 +102,7 @@ impl Walk<'_> {
     fn step(&mut self, flow: &Flow, defs: &Defs) -> Result<Turn, NoMemory>
         requires followed { IsWalk flow.now defs.now self.old }
         requires covered { AreCovered defs.now self.old.proof.branches }
-        ensures follows { OnOk result (IsWalk flow.now defs.now self.new) }
+        ensures follows { OnOk result (IsOnward flow.now defs.now self.new) }
         ensures covered { OnOk result (AreCovered defs.now self.new.proof.branches) }
         ensures whole { IfOk result (λ turn. turn ≡ Whole → (self.new.proof.branches ≡ []) × (self.new.ended ≡ self.old.ended)) }
     {
@@ -132,13 +131,13 @@ impl Walk<'_> {
         self.ended > PATHS
     }
 
-    /// Follows all branches, until none is open, or too many have ended. No memory where lines can't be counted.
+    /// Follows all branches, until none is open, or the last line has ended one more than may end. No memory where lines can't
+    /// be counted.
     pub fn follow(&mut self, flow: &Flow, defs: &Defs) -> Result<Turn, NoMemory>
         requires followed { IsWalk flow.now defs.now self.old }
         requires covered { AreCovered defs.now self.old.proof.branches }
-        ensures follows { OnOk result (IsWalk flow.now defs.now self.new) }
-        ensures over { IfOk result (λ turn. turn ≡ On → 65536 < self.new.ended) }
-        ensures whole { IfOk result (λ turn. turn ≡ Whole → (self.new.proof.branches ≡ []) × (self.new.ended ≤ 65536)) }
+        ensures over { IfOk result (λ turn. turn ≡ On → IsCrowded flow.now defs.now self.new.lines.items) }
+        ensures whole { IfOk result (λ turn. turn ≡ Whole → IsWalk flow.now defs.now self.new × (self.new.proof.branches ≡ [])) }
     {
         for number in 0..u64::MAX {
             let _number = number;

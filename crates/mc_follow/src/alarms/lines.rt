@@ -1,9 +1,12 @@
 // What lines do with the branch that they stand on.
-ghost use Rattle.std.specs.Prelude.{◌≡◌};
-ghost use Rattle.mc_follow.specs.Alarms.Walks.{ending, goes_on};
+ghost use Rattle.std.specs.Prelude.{◌≡◌, ◌≤◌, ◌↔◌, true};
+ghost use Rattle.mc_follow.specs.Alarms.Walks.{ended_by, ending, goes_on};
 
 use mc_lines::cert::Line;
 use mc_state::InstrRule;
+
+/// More branches than these may not end.
+pub const PATHS: u64 = 65536;
 
 /// Whether a line is one of a rule that ends no branch as stuck.
 pub fn goes_on(line: &Line) -> bool
@@ -20,7 +23,7 @@ pub fn goes_on(line: &Line) -> bool
     }
 }
 
-/// How many branches a line ends, whatever rules a predicate has.
+/// How many branches a line ends: one at most.
 pub fn ending(line: &Line) -> u64
     ensures { result ≡ ending line.now }
 {
@@ -32,4 +35,18 @@ pub fn ending(line: &Line) -> u64
         Line::C1 => 1,
         _ => 0,
     }
+}
+
+/// Whether lines end no more branches than may end.
+pub fn ends_few(lines: &[Line]) -> bool
+    ensures { (result ≡ true) ↔ (ended_by lines.now ≤ 65536) }
+{
+    let mut ended = 0;
+    for line in lines {
+        ended += ending(line);
+        if ended > PATHS {
+            return false;
+        }
+    }
+    true
 }

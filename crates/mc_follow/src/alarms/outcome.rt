@@ -15,6 +15,6 @@ pub struct Document {
 pub enum Outcome {
     /// All branches are followed to their ends.
     Whole(Document),
-    /// More branches have ended than may be followed: the lines so far.
+    /// More branches have ended than may be followed: the lines up to the one that ended the 65,537th.
     Paths(Vec<Line>),
 }

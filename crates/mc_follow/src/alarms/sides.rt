@@ -2,7 +2,8 @@
 ghost use Rattle.std.specs.Prelude.{◌≡◌, ◌≤◌, ◌++◌, ◌∷◌, [], IfOk, MatchOption, OnOk, length, map, option_map, pos, reverse, true};
 ghost use Rattle.mc_follow.specs.Alarms.Sides.{AreMarksMet, AreMetsOf, HasMet, HasName, HaveNames, IsAtGoal, IsAtMark, IsAtMarks, IsCoverFound};
 ghost use Rattle.mc_follow.specs.Alarms.Sides.{IsKnownWritten, IsLastEdge, IsMarkMet, IsNextNode, IsSound, MayName, MayNameAll, PushesLast, TellsFalse, TellsSound};
-ghost use Rattle.mc_follow.specs.Alarms.Walks.{IsAtCovered, IsFirstGone, IsSure, IsTurned, IsWalk};
+ghost use Rattle.mc_follow.specs.Alarms.Outcomes.{IsOnward};
+ghost use Rattle.mc_follow.specs.Alarms.Walks.{IsAtCovered, IsFirstGone, IsSure, IsTurned, IsWalk, ending};
 ghost use Rattle.mc_lines.specs.declared.cert.line.Line.TheVariants as line;
 ghost use Rattle.mc_cover.specs.declared.goals.Mark.TheVariants as mark;
 ghost use Rattle.mc_state.specs.Facts.{IsFalse};
@@ -147,10 +148,11 @@ impl Walk<'_> {
         }
     }
 
-    /// Goes on by a line of a side branch; whether its state is not false then.
+    /// Goes on by a line of a side branch, which does not end it; whether its state is not false then.
     fn lay(&mut self, flow: &Flow, defs: &Defs, line: Line) -> Result<bool, NoMemory>
         requires followed { IsWalk flow.now defs.now self.old }
         requires sure { IsSure flow.now defs.now line self.old.proof }
+        requires lasts { ending line ≡ 0 }
         ensures follows { OnOk result (IsWalk flow.now defs.now self.new) }
         ensures turned { OnOk result (IsTurned flow.now defs.now line self.old.proof self.new.proof) }
         ensures sound { IfOk result (TellsSound self.new.proof) }
@@ -241,6 +243,7 @@ impl Walk<'_> {
     ) -> Result<bool, NoMemory>
         requires followed { IsWalk flow.now defs.now self.old }
         requires sure { IsSure flow.now defs.now line self.old.proof }
+        requires lasts { ending line ≡ 0 }
         ensures follows { OnOk result (IsWalk flow.now defs.now self.new) }
         ensures turned { OnOk result (IsTurned flow.now defs.now line self.old.proof self.new.proof) }
         ensures sound { IfOk result (TellsSound self.new.proof) }
@@ -415,7 +418,7 @@ impl Walk<'_> {
     pub fn end_side(&mut self, flow: &Flow, defs: &Defs) -> Result<(), NoMemory>
         requires followed { IsWalk flow.now defs.now self.old }
         requires here { IsAtCovered defs.now self.old.proof }
-        ensures follows { OnOk result (IsWalk flow.now defs.now self.new) }
+        ensures follows { OnOk result (IsOnward flow.now defs.now self.new) }
         ensures ended { OnOk result (IsFirstGone self.old.proof self.new.proof) }
     {
         match self.met_by(flow, defs)? {

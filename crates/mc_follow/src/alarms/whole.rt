@@ -1,7 +1,7 @@
 // The alarms of a program.
-ghost use Rattle.std.specs.Prelude.{◌≡◌, ◌≤◌, [], IfOk};
-ghost use Rattle.mc_follow.specs.Alarms.Outcomes.{IsFront, IsOutcome};
-ghost use Rattle.mc_follow.specs.Alarms.Walks.{IsWalk, ended_by};
+ghost use Rattle.std.specs.Prelude.{◌≡◌, [], IfOk};
+ghost use Rattle.mc_follow.specs.Alarms.Outcomes.{IsOutcome};
+ghost use Rattle.mc_follow.specs.Alarms.Walks.{IsWalk};
 ghost use Rattle.mc_flow.specs.Valid.{IsValid};
 
 use crate::alarms::laws::documents_are_followed;
@@ -16,14 +16,9 @@ use std::alloc::{AllocError, Global};
 
 impl Walk<'_> {
     /// The lines so far.
-    fn into_lines(self, flow: &Flow, defs: &Defs) -> Vec<Line>
-        requires { IsWalk flow.now defs.now self }
-        ensures front { IsFront flow.now defs.now result.items }
-        ensures counted { self.entry.ended ≡ ended_by result.items }
+    fn into_lines(self) -> Vec<Line>
+        ensures { result.items ≡ self.entry.lines.items }
     {
-        // For the proof alone: they are those of this program.
-        let _points = flow.points.len();
-        let _defs = defs.as_slice();
         self.lines
     }
 
@@ -31,7 +26,6 @@ impl Walk<'_> {
     fn finish(self, flow: &Flow, defs: &Defs) -> Result<Outcome, NoMemory>
         requires followed { IsWalk flow.now defs.now self }
         requires none_open { self.proof.branches ≡ [] }
-        requires within { self.ended ≤ 65536 }
         ensures { IfOk result (IsOutcome flow.now defs.now) }
     {
         // For the proof alone: a chain that has ended is one of one pass.
@@ -65,7 +59,7 @@ impl Walk<'_> {
 }
 
 /// The alarms of a program without loops: all its branches are followed, and each that comes to an instruction that lacks
-/// something is stuck there.
+/// something is stuck there. At the line that ends the 65,537th branch it stops.
 pub fn alarms(alloc: Global, flow: &Flow, defs: &Defs) -> Result<Outcome, NoMemory>
     requires valid { IsValid flow.now defs.now }
     requires no_loops { flow.now.heads ≡ [] }
@@ -73,7 +67,7 @@ pub fn alarms(alloc: Global, flow: &Flow, defs: &Defs) -> Result<Outcome, NoMemo
 {
     let mut walk = Walk::start(alloc, flow, defs)?;
     match walk.follow(flow, defs)? {
-        Turn::On => Ok(Outcome::Paths(walk.into_lines(flow, defs))),
+        Turn::On => Ok(Outcome::Paths(walk.into_lines())),
         Turn::Whole => walk.finish(flow, defs),
     }
 }

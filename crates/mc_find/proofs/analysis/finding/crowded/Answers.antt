@@ -5,6 +5,5 @@ pub returns : goal.returns
 returns c = record {
   lines = c.args.lines.now;
   spelled = spelled c.args.lines.now c.in_ok-text.text.items c.in_ok-text.ensures;
-  front = c.requires.front;
-  many = c.requires.many;
+  crowded = c.requires;
 }

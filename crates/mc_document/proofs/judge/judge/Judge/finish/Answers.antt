@@ -1,4 +1,6 @@
-use Rattle.std.proofs.Common.{◌≡◌, ◌∙◌, ℕ, List, true, false, length, suc, sym, subst}
+use Rattle.std.proofs.lemmas.Result.{IfOk-weaker}
+use Rattle.mc_document.specs.declared.judge.stage.Stage.TheVariants.{Spent}
+use Rattle.std.proofs.Common.{◌≡◌, ◌≢◌, ◌∙◌, ℕ, List, true, false, length, suc, sym, subst}
 use Rattle.std.specs.Prelude.{◌==◌}
 use Rattle.mc_lines.specs.Cert.Lines.{lines_of}
 use Rattle.mc_document.specs.Judge.Stages.{IsAt, Leads}
@@ -12,7 +14,7 @@ returns-then-is_empty-clause-verdict c = λ k well text judge heard.
     subst (λ (bs : List ℕ). (length bs == 0) ≡ true) c.as_slice-bytes.ensures.value (sym c.is_empty.ensures ∙ c.if-is_empty.true) in
     let at : IsAt k well c.args.self.flow.now c.args.self.defs.now (lines_of text) c.args.self.stage =
     finished_closed k well text c.args.self heard (no_bytes c.args.self.open.items empty) in
-    c.verdict.ensures k well c.args.self.flow.now c.args.self.defs.now (lines_of text) at
+    c.verdict.ensures.verdict k well c.args.self.flow.now c.args.self.defs.now (lines_of text) at
 
 pub returns-then-is_empty-clause-tells : goal.returns-then-is_empty-clause-tells
 returns-then-is_empty-clause-tells c = λ k well text judge heard.
@@ -29,7 +31,7 @@ returns-then-is_empty-clause-tells c = λ k well text judge heard.
       chains = c.documents_are_read.ensures.chains;
     } in
     if_tells laws k well c.args.self.flow.now c.args.self.defs.now c.requires judge text c.verdict.result
-    (c.verdict.ensures k well c.args.self.flow.now c.args.self.defs.now (lines_of text) at)
+    (c.verdict.ensures.verdict k well c.args.self.flow.now c.args.self.defs.now (lines_of text) at)
 
 pub returns-clause-verdict : goal.returns-clause-verdict
 returns-clause-verdict c = λ k well text judge heard.
@@ -42,7 +44,7 @@ returns-clause-verdict c = λ k well text judge heard.
     let at : IsAt k well c.args.self.flow.now c.args.self.defs.now (lines_of text) c.next_stage-last.result =
     finished_open k well text c.args.self c.in_ok-number.number c.next_stage-last.result heard (some_bytes c.args.self.open.items some) judge
     c.in_ok-number.ensures leads c.next_stage-last.ensures.stays in
-    c.verdict-2.ensures k well c.args.self.flow.now c.args.self.defs.now (lines_of text) at
+    c.verdict-2.ensures.verdict k well c.args.self.flow.now c.args.self.defs.now (lines_of text) at
 
 pub returns-clause-tells : goal.returns-clause-tells
 returns-clause-tells c = λ k well text judge heard.
@@ -64,4 +66,9 @@ returns-clause-tells c = λ k well text judge heard.
       chains = c.documents_are_read.ensures.chains;
     } in
     if_tells laws k well c.args.self.flow.now c.args.self.defs.now c.requires judge text c.verdict-2.result
-    (c.verdict-2.ensures k well c.args.self.flow.now c.args.self.defs.now (lines_of text) at)
+    (c.verdict-2.ensures.verdict k well c.args.self.flow.now c.args.self.defs.now (lines_of text) at)
+
+pub returns-clause-unspent : goal.returns-clause-unspent
+returns-clause-unspent c =
+    IfOk-weaker c.verdict-2.result (λ verdict. c.next_stage-last.result ≢ Spent) (λ verdict. c.args.self.stage ≢ Spent)
+    (λ verdict known spent. known (c.next_stage-last.ensures.spent spent)) c.verdict-2.ensures.unspent

@@ -1,6 +1,6 @@
-use Rattle.std.proofs.Common.{sym, subst}
+use Rattle.std.proofs.Common.{ap, sym, subst}
 use Rattle.mc_lines.specs.declared.cert.line.Line.{Line}
-use Rattle.mc_follow.specs.Alarms.Walks.{IsSure, IsTurned}
+use Rattle.mc_follow.specs.Alarms.Walks.{IsSure, IsTurned, ending}
 use Rattle.mc_follow.proofs.AlarmsLemmas.SideLines.{are_bounded, name_line, new_name, no_name, own_name}
 use Rattle.mc_follow.proofs.alarms.walk.Walk.name.Goals as goal
 
@@ -38,3 +38,6 @@ returns-else-branch-clause-named c =
     no_name c.goals_are_made.ensures flow defs old.proof (are_bounded c.documents_are_followed.ensures flow defs old.lines.items old.proof old.text.items old.ended c.requires.followed)
     c.args.kind c.args.term.now c.lay.new.self.proof (subst (λ (l : Line). IsTurned flow defs l old.proof c.lay.new.self.proof) c.naming.ensures c.in_ok-lay.ensures.turned) c.in_ok-lay.field-0 c.in_ok-lay.ensures.sound
     c.if-branch.false
+
+pub lay-requires-clause-lasts : goal.lay-requires-clause-lasts
+lay-requires-clause-lasts c = ap ending c.naming.ensures

@@ -18,16 +18,16 @@ returns-in-Ok-clause-follows c =
     (c.in_ok-push-2.ensures.items
     ∙ ap (λ (ls : List Line). ls ++ Pass ∷ []) (c.in_ok-push.ensures.items ∙ ap (λ (ls : List Line). ls ++ Header One Chain ∷ []) c.new-lines.ensures.items))
     c.new.ensures.items
-    (starts c.documents_are_followed.ensures flow defs c.requires.valid c.start-proof.result c.apply.new.self c.start-proof.ensures c.in-Ok.ensures)
+    (starts c.documents_are_followed.ensures flow defs c.requires.valid c.requires.no_loops c.start-proof.result c.apply.new.self c.start-proof.ensures c.in-Ok.ensures.applies)
 
 pub returns-in-Ok-clause-covered : goal.returns-in-Ok-clause-covered
 returns-in-Ok-clause-covered c =
     let flow = c.args.flow.now in
     let defs = c.args.defs.now in
     roots_covered flow defs c.apply.new.self
-    (begins_with c.documents_are_followed.ensures flow defs c.requires.valid c.start-proof.result c.apply.new.self c.start-proof.ensures c.in-Ok.ensures)
+    (begins_with c.documents_are_followed.ensures flow defs c.requires.valid c.start-proof.result c.apply.new.self c.start-proof.ensures c.in-Ok.ensures.applies)
 
 pub unreachable-requires : goal.unreachable-requires
 unreachable-requires c =
-    let told = subst (λ (f : ApplyFault). Applies Pass c.start-proof.result c.apply.new.self (Err f)) c.in-Err-Premise.field-0-is c.in-Err-Premise.ensures in
+    let told = subst (λ (f : ApplyFault). Applies Pass c.start-proof.result c.apply.new.self (Err f)) c.in-Err-Premise.field-0-is c.in-Err-Premise.ensures.applies in
     pass_is_taken c.documents_are_followed.ensures c.args.flow.now c.args.defs.now c.requires.valid c.start-proof.result _ c.requires.no_loops c.start-proof.ensures told.0

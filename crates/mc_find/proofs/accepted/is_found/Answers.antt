@@ -1,0 +1,35 @@
+use Rattle.std.proofs.Common.{◌≡◌, ◌∙◌, ℕ, List, Bool, true, false, subst, sym}
+use Rattle.std.specs.Prelude.{◌↔◌}
+use Rattle.std.proofs.lemmas.Result.{IfOk-weaker}
+use Rattle.mc_base.specs.declared.ids.PointId.{PointId}
+use Rattle.mc_document.specs.Places.{IsCertificateInPlace, cuts_of}
+use Rattle.mc_find.specs.Analysis.Findings.{IsFound}
+use Rattle.mc_find.proofs.AcceptedLemmas.{all_checked}
+use Rattle.mc_find.proofs.accepted.is_found.Goals as goal
+
+pub returns-then-not-ends_few : goal.returns-then-not-ends_few
+returns-then-not-ends_few c = (
+  λ yes. absurd (cc yes),
+  λ found.
+      (let clash : false ≡ true = sym c.if-not-ends_few.true ∙ c.ends_few.ensures.1 found.within in
+      absurd (cc clash)),
+)
+
+pub returns-then-not-has_cuts : goal.returns-then-not-has_cuts
+returns-then-not-has_cuts c = (
+  λ yes. absurd (cc yes),
+  λ found.
+      (let clash : false ≡ true = sym c.if-not-has_cuts.true ∙ c.has_cuts.ensures.1 (found.places.cuts ∙ sym c.as_slice.ensures) in
+      absurd (cc clash)),
+)
+
+pub returns : goal.returns
+returns c =
+    let flow = c.args.flow.now in
+    let defs = c.args.defs.now in
+    let lines = c.args.lines.now in
+    IfOk-weaker c.is_certificate.result (λ (is : Bool). (is ≡ true) ↔ IsCertificateInPlace flow defs lines) (λ (is : Bool). (is ≡ true) ↔ IsFound flow defs lines)
+    (λ is told.
+    all_checked flow defs lines is (c.ends_few.ensures.0 c.if-not-ends_few.false)
+    (c.has_cuts.ensures.0 c.if-not-has_cuts.false ∙ c.as_slice.ensures) told)
+    c.is_certificate.ensures
