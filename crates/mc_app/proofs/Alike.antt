@@ -161,7 +161,7 @@ verdict_is laws flow defs (analysis.Paths text) document v valid crowded is said
     let document_is : document ≡ text.items = cc in
     let known = laws.judged flow defs valid in
     let spelled = subst (λ (t : List ℕ). SpellAll (lines_of t) crowded.lines) (sym document_is) crowded.spelled in
-    let goes = front_goes_on known.0 known.1 flow defs (lines_of document) crowded.lines known.2 spelled crowded.front in
+    let goes = front_goes_on known.0 known.1 flow defs (lines_of document) crowded.lines known.2 spelled crowded.crowded.front in
     let early = laws.early known.0 known.1 flow defs (lines_of document) v (said.1 known.0 known.1 known.2) goes in
     ap (λ (x : Verdict). Judged x) early
 verdict_is laws flow defs analysis.Unknown document v valid found is said = tt
