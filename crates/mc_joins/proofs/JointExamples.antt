@@ -22,7 +22,8 @@ use Rattle.mc_pure.specs.Rows.{nodes_of}
 use Rattle.mc_pure_ops.specs.Join.Joint.{Pairs, IsJoint, IsJointRange, IsLate, sides, IsOfBoth}
 use Rattle.mc_pure_ops.specs.Canon.Order.{Among}
 use Rattle.mc_pure_ops.proofs.CanonLemmas.Listing.{contains_from, contains_to, either_in, right_in, left_in}
-use Rattle.mc_pure_ops.proofs.CanonLemmas.Nodes.{in_as, ne_as, node_listed, place_of_kind, whole_least}
+use Rattle.mc_pure_ops.proofs.CanonLemmas.Nodes.{in_as, ne_as, whole_least}
+use Rattle.mc_pure.proofs.Placing.{node_place, place_of_kind}
 use Rattle.mc_state.specs.State.{State, pure_of}
 use Rattle.mc_kernel.proofs.Plain.{known_of}
 use Rattle.mc_joins.specs.JointExamples.{two_kinds, two_known, two_turned, tied, pointers, TiedCountersJoin, TurnedJoins, OneClassJoins}
@@ -38,7 +39,7 @@ use Rattle.mc_kernel.proofs.Plain.{base_true, not_false}
 use Rattle.std.specs.Int.{int_max}
 use Rattle.mc_base.specs.Ranges.Thresholds.{WidensUp}
 use Rattle.mc_pure_ops.specs.Canon.Left.{IsLeft, IsRangeLeft, IsClassLeft}
-use Rattle.mc_pure_ops.proofs.CanonLemmas.Lists.{number}
+use Rattle.mc_pure.proofs.Changing.{number}
 use Rattle.mc_pure_ops.proofs.CanonLemmas.Within.{range_in}
 use Rattle.mc_pure_ops.proofs.JoinLemmas.Follow.{range_once}
 use Rattle.mc_rules_logic.specs.Fold.Changed.{alone}
@@ -126,7 +127,7 @@ widens l h k more positive low = record {
 
 -- a node is 0, 1 or 2
 pub nodes_are : (n : NodeId) → IsNode (two_kinds Int) n → (n ≡ null) ⊎ ((n ≡ node 1) ⊎ (n ≡ node 2))
-nodes_are n there = let p = node_listed (two_kinds Int) n there in at p.0 p.1
+nodes_are n there = let p = node_place (two_kinds Int) n there in at p.0 p.1
   where
     at : (i : ℕ) → slice_get (nodes_of (two_kinds Int)) i ≡ Some n → (n ≡ null) ⊎ ((n ≡ node 1) ⊎ (n ≡ node 2))
     at zero e = inl (cc e)

@@ -14,7 +14,7 @@ use Rattle.mc_pure.specs.Classes.{HasNormalForm, NormalSaysAll}
 use Rattle.mc_pure_ops.specs.declared.canon.gaps.Gap.{Gap}
 use Rattle.mc_pure_ops.specs.Canon.Left.{IsLeastLeft, IsRangeLeft, IsClassLeft}
 use Rattle.mc_pure_ops.proofs.CanonLemmas.Exact.{IsDifferenceLeft}
-use Rattle.mc_pure_ops.proofs.CanonLemmas.Lists.{same_node}
+use Rattle.mc_pure.proofs.Changing.{same_node}
 use Rattle.mc_pure_ops.proofs.CanonLemmas.Moving.{apart_to, range_bounds}
 use Rattle.mc_pure_ops.proofs.JoinLemmas.Follow.{not_below, range_full, eq_offset}
 use Rattle.mc_rules_logic.proofs.FoldLemmas.KindsAgree.{Parted, IsNumber, KindsAgree, number_back, agree}

@@ -24,7 +24,7 @@ use Rattle.mc_pure_ops.specs.Join.Joint.{Pairs, AreJoinable, AreJointKinds, Have
 use Rattle.mc_pure_ops.specs.Join.Gains.{Gains}
 use Rattle.mc_pure_ops.specs.Join.Parts.{node, EqualityAt, DifferenceAt, ListedAt, RangeAt, Below, AtPlace, HasAll, MayBeKind, IsDistance}
 use Rattle.mc_pure_ops.specs.Join.Parts as parts
-use Rattle.mc_pure_ops.proofs.CanonLemmas.Nodes.{decide}
+use Rattle.mc_pure.proofs.Changing.{decide}
 use Rattle.mc_pure_ops.proofs.CanonLemmas.Plain.{between}
 use Rattle.mc_pure_ops.proofs.JoinLemmas.Follow.{range_once, offset_once}
 use Rattle.mc_pure_ops.proofs.JoinLemmas.Pairing.{Pair, pair_same, by_left, by_right, no_kind, none_left, none_right, one_equality, one_difference, one_listed}

@@ -8,7 +8,8 @@ use Rattle.mc_base.specs.Nodes.{null}
 use Rattle.mc_pure.specs.Pure.{Kinds, Pure, HasKind, kind_of}
 use Rattle.mc_pure.specs.Nodes.{RiseFrom}
 use Rattle.mc_pure_ops.specs.Join.Joint.{Pairs, StandsFor, HaveOneKind, AreJoinable, IsKindOfPair, AreJointKinds}
-use Rattle.mc_pure_ops.proofs.CanonLemmas.Nodes.{decide, here_kind, later_kind}
+use Rattle.mc_pure.proofs.Changing.{decide}
+use Rattle.mc_pure.proofs.Placing.{here_kind, later_kind}
 use Rattle.mc_state.specs.State.{pure_of}
 use Rattle.mc_joins.specs.Joinings.{Joining, Pair}
 use Rattle.mc_joins.specs.Whole.{kinds_from}

@@ -19,7 +19,9 @@ use Rattle.mc_pure_ops.specs.Canon.Order.{GivesAtMost}
 use Rattle.mc_pure_ops.specs.Canon.Left.{IsPlace, IsRangeLeft, IsClassLeft, OfNode, OfNodes}
 use Rattle.mc_pure_ops.specs.Canon.Gaps.{ArePair, IsMoved, MovedPlaces, StartGives, StartsGive, AreApart, IsPlain, IsTurned, Shows, Gives, GapOf, PairGives, AtomGives, WrittenGives, PairsGive, DifferenceLeft, gap_atom, turned_gap}
 use Rattle.mc_pure_ops.proofs.CanonLemmas.Moving.{apart_to, apart_from, moved_to, moved_from, gap_once}
-use Rattle.mc_pure_ops.proofs.CanonLemmas.Nodes.{decide, node_there, node_listed, whole_place}
+use Rattle.mc_pure_ops.proofs.CanonLemmas.Nodes.{node_there, whole_place}
+use Rattle.mc_pure.proofs.Changing.{decide}
+use Rattle.mc_pure.proofs.Placing.{node_place}
 use Rattle.mc_pure_ops.proofs.CanonLemmas.Plain.{range_of}
 use Rattle.mc_pure_ops.proofs.CanonLemmas.Single.{null_range, wide_range, narrow_range, null_class, self_class, other_class}
 use Rattle.mc_joins.proofs.AtomsLemmas.Finite.{Among, Either, Finite, finite_none, finite_one, finite_as, finite_or, finite_list, finite_with}
@@ -122,12 +124,12 @@ module _ (says : NormalSaysAll) (p : Pure) (fit : IsFit p) (true_p : IsFalse p �
   of_nodes P each = finite_with (OfNode P) (Among (nodes_of p.kinds)) (finite_list (nodes_of p.kinds)) (λ n m. each n (node_there p.kinds m.0 n m.1))
 
   range_node : (f : Atom) → IsRangeLeft p None f → OfNodes (IsRangeLeft p None) (nodes_of p.kinds) f
-  range_node (In a lo hi) k = (a, node_listed p.kinds a (k.0.0, inr k.0.2), (k, refl))
+  range_node (In a lo hi) k = (a, node_place p.kinds a (k.0.0, inr k.0.2), (k, refl))
   range_node (Eq a b c) k = absurd k.0
   range_node (Ne a b c) k = absurd k.0
 
   class_node : (f : Atom) → IsClassLeft p None f → OfNodes (IsClassLeft p None) (nodes_of p.kinds) f
-  class_node (Eq a b c) k = (a, node_listed p.kinds a k.2, (k, refl))
+  class_node (Eq a b c) k = (a, node_place p.kinds a k.2, (k, refl))
   class_node (In a lo hi) k = absurd k
   class_node (Ne a b c) k = absurd k
 

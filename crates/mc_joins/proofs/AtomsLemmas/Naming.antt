@@ -15,7 +15,9 @@ use Rattle.mc_pure.specs.Normal.{low, high, Holds, IsNormal}
 use Rattle.mc_pure.specs.Classes.{NormalSaysAll}
 use Rattle.mc_pure.specs.Laws.{FollowsFromMore}
 use Rattle.mc_pure.proofs.Completeness.{not_false}
-use Rattle.mc_pure_ops.proofs.CanonLemmas.Nodes.{Entry, decide, here_kind, later_kind, in_as}
+use Rattle.mc_pure_ops.proofs.CanonLemmas.Nodes.{in_as}
+use Rattle.mc_pure.proofs.Changing.{decide}
+use Rattle.mc_pure.proofs.Placing.{Entry, here_kind, later_kind}
 use Rattle.mc_pure_ops.proofs.JoinLemmas.Follow.{eq_as}
 use Rattle.mc_joins.proofs.AtomsLemmas.Finite.{among_left, among_right, among_either, among_cases, among_none}
 

@@ -14,7 +14,7 @@ use Rattle.mc_pure.specs.Known.{IsFit}
 use Rattle.mc_pure.specs.Derived as pure_facts
 use Rattle.mc_pure.specs.Derived.{Follows, Derived, base, widened}
 use Rattle.mc_pure_ops.specs.Join.Joint.{Pairs, StandsFor, AreJoinable, AreJointKinds, IsKindOfPair, IsJoin, IsOfBoth, sides}
-use Rattle.mc_pure_ops.proofs.CanonLemmas.Nodes.{Entry, here_kind, later_kind}
+use Rattle.mc_pure.proofs.Placing.{Entry, here_kind, later_kind}
 use Rattle.mc_pure_ops.proofs.JoinLemmas.Pairing.{kind_once}
 use Rattle.mc_state.specs.Laws.{NewNodesHaveKinds}
 use Rattle.mc_state.specs.State.{State, pure_of}

@@ -19,8 +19,10 @@ use Rattle.mc_pure_ops.specs.declared.canon.gaps.Gap.{Gap}
 use Rattle.mc_pure_ops.specs.Canon.Order.{Among, IsBefore, Added}
 use Rattle.mc_pure_ops.specs.Canon.Left.{IsLeft, IsLeastLeft, LeavesOut, IsRangeLeft, IsClassLeft}
 use Rattle.mc_pure_ops.specs.Canon.Gaps.{ArePair, IsTurned, DifferenceLeft, gap_atom, turned_gap}
-use Rattle.mc_pure_ops.proofs.CanonLemmas.Lists.{same_node, added_as}
-use Rattle.mc_pure_ops.proofs.CanonLemmas.Nodes.{ne_as, place_of_kind, least_whole, whole_least}
+use Rattle.mc_pure_ops.proofs.CanonLemmas.Lists.{added_as}
+use Rattle.mc_pure.proofs.Changing.{same_node}
+use Rattle.mc_pure_ops.proofs.CanonLemmas.Nodes.{ne_as, least_whole, whole_least}
+use Rattle.mc_pure.proofs.Placing.{place_of_kind}
 use Rattle.mc_pure_ops.proofs.CanonLemmas.Plain.{range_of, plain}
 use Rattle.mc_pure_ops.proofs.CanonLemmas.Exact.{IsDifferenceLeft, difference_true, difference_made}
 use Rattle.mc_pure_ops.proofs.CanonLemmas.Within.{moved_ne, range_in, class_in, plain_in}

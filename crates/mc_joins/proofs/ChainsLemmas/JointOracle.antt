@@ -11,7 +11,7 @@ use Rattle.mc_flow.specs.declared.defs.shapes.StructInfo.{StructInfo}
 use Rattle.mc_pure.specs.Derived.{apart}
 use Rattle.mc_pure.specs.Pure.{Kinds, HasKind}
 use Rattle.mc_pure_ops.specs.Join.Joint.{Pairs, AreJointKinds}
-use Rattle.mc_pure_ops.proofs.CanonLemmas.Nodes.{decide}
+use Rattle.mc_pure.proofs.Changing.{decide}
 use Rattle.mc_state.specs.Facts.{IsFalse}
 use Rattle.mc_state.specs.Fits.{IsWellMade}
 use Rattle.mc_state.specs.Known.{Test}

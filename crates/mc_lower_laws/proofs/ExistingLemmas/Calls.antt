@@ -27,7 +27,7 @@ use Rattle.mc_lower_laws.proofs.ExistingLemmas.Values.{laying, undefining, creat
 use Rattle.mc_lower_laws.proofs.ExistingLemmas.Choosing.{AreExact, picked, are_picked}
 use Rattle.mc_lower_laws.proofs.ExistingLemmas.Actions.{putting_in, assigning_expression, assigning_allocation, changing_by, numbers_from, from_low, low_from, receiving, passing, awaited, awaiting_one}
 use Rattle.mc_lower_laws.proofs.ScopedLemmas.Lists.{contains_none, mapped, unmapped}
-use Rattle.mc_lower_laws.proofs.SingleLemmas.Owning.{occurrence}
+use Rattle.mc_lower_spec.proofs.Owning.{occurrence}
 use Rattle.mc_lower_spec.proofs.LengthLemmas.Least.{below_low}
 use Rattle.mc_lower_laws.proofs.LowerableLemmas.Wholes.{in_below}
 

@@ -10,7 +10,7 @@ use Rattle.mc_flow.specs.declared.instr.Instr.{Instr}
 use Rattle.mc_semantics.specs.Resolved.Programs.{Program}
 use Rattle.mc_lower_spec.specs.Graphs.{Graph, Owner, Role, Stage, stage, IsPoint}
 use Rattle.mc_lower_laws.proofs.ScopedLemmas.Lists.{contains_none}
-use Rattle.mc_lower_laws.proofs.SingleLemmas.Owning.{occurrence}
+use Rattle.mc_lower_spec.proofs.Owning.{occurrence}
 
 -- a point and a variable of a flow graph in the making
 pub record Draft : Type 0 where

@@ -27,7 +27,7 @@ use Rattle.mc_lower_laws.proofs.ExistingLemmas.Calls.{Stands, AllCallable, await
 use Rattle.mc_lower_laws.proofs.ExistingLemmas.Statements.{all_lowering_of}
 use Rattle.mc_lower_laws.proofs.ExistingLemmas.Counts.{table, exact}
 use Rattle.mc_lower_laws.proofs.ExistingLemmas.Constants.{thresholds_of}
-use Rattle.mc_lower_laws.proofs.SingleLemmas.Owning.{occurrence}
+use Rattle.mc_lower_spec.proofs.Owning.{occurrence}
 use Rattle.mc_lower_spec.proofs.LengthLemmas.Least.{below_low}
 
 -- ---- `main`
