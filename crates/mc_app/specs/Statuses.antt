@@ -6,6 +6,7 @@ use Rattle.mc_flow.specs.declared.defs.rules.Def.{Def}
 use Rattle.mc_flow.specs.declared.graph.Flow.{Flow}
 use Rattle.mc_follow.specs.Report.Report.{IsChainReport}
 use Rattle.mc_kernel.specs.Branches.{Path}
+use Rattle.mc_kernel.specs.Certificates.{WrittenHead}
 use Rattle.mc_load.specs.Inputs.Inputs.{AreInputs, Holds}
 use Rattle.mc_load.specs.Inputs.Texts.{AreDefinitions, IsProgramHere}
 use Rattle.mc_load.specs.Lowered.Graphs.{IsGraphOf}
@@ -39,7 +40,7 @@ AlarmsMean holds old new unit defs (request.Check c) =
     (λ document. (flow : Flow) × (stuck : List Path) × IsChain flow defs document stuck × TellsFaults c.start.now unit defs stuck flow)
 AlarmsMean holds old new unit defs (request.Run r) = Unit {0}
 AlarmsMean holds old new unit defs (request.Analyse a) =
-    (flow : Flow) × (stuck : List Path) × (report : List ℕ) × IsChainReport flow defs stuck report
+    (flow : Flow) × (heads : List WrittenHead) × (stuck : List Path) × (report : List ℕ) × IsChainReport flow defs heads stuck report
     × AddsIfTold old report new (Ok tt) × TellsFaults a.start.now unit defs stuck flow
 
 -- the words ask for a check or an analysis, and where it is known what the files of its program and definitions hold, they are a

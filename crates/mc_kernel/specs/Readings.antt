@@ -106,9 +106,9 @@ reading_cut flow p r =
     (need 4 (comes_after r.cuts p)
     (Ok (record r { cuts = r.cuts ++ p ∷ [] }))))
 
--- a head may stand here
+-- a head may stand here: after the cuts, among which are all loop heads, and before the lines of rules
 abbrev pub may_head : Flow → Reading → Stage → Bool
-may_head flow r cutting = not (is_chain r.form) && has_all_heads flow r.cuts
+may_head flow r cutting = has_all_heads flow r.cuts
 may_head flow r heading = true
 may_head flow r ruling = false
 may_head flow r finished = false
@@ -126,13 +126,14 @@ reading_head well flow p raw r =
 -- a pass may stand here
 abbrev pub may_pass : Flow → Reading → Stage → Bool
 may_pass flow r cutting = is_chain r.form && has_all_heads flow r.cuts
-may_pass flow r heading = false
+may_pass flow r heading = is_chain r.form && has_all_heads flow r.cuts
 may_pass flow r ruling = is_chain r.form
 may_pass flow r finished = false
 
--- a pass opens the entry; a second one would need a pass before it that changed the states of cuts, and none does yet
+-- a pass opens the entry and the heads; a second one would need a pass before it that changed the states of cuts, and none does yet
 abbrev pub reading_pass : Flow → Reading → Judged Reading
-reading_pass flow r = need 1 (may_pass flow r r.stage) (need 3 (is_cutting r.stage) (Ok (ruled r (roots flow []))))
+reading_pass flow r =
+    need 1 (may_pass flow r r.stage) (need 3 (not (is_ruling r.stage)) (Ok (ruled r (roots flow (states_of r.heads)))))
 
 -- no branch is open
 abbrev pub has_no_branch : List Path → Bool

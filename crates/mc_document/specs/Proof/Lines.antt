@@ -14,7 +14,7 @@ use Rattle.mc_rules_steps.specs.Operands.{code_at}
 use Rattle.mc_kernel.specs.Branches.{Head, Path, Setting, roots}
 use Rattle.mc_kernel.specs.JudgedLaws.{IsAsked}
 use Rattle.mc_kernel.specs.Judges.{Knowledge, is_chain, is_cut, judged_line}
-use Rattle.mc_kernel.specs.Readings.{Stage, cutting, heading, ruling, finished, is_cutting, has_all_heads, is_skip, comes_after, has_no_branch, first_branch}
+use Rattle.mc_kernel.specs.Readings.{Stage, cutting, heading, ruling, finished, is_cutting, is_ruling, has_all_heads, is_skip, comes_after, has_no_branch, first_branch}
 use Rattle.mc_kernel.specs.Reading.Documents.{IsMade}
 use Rattle.mc_document.specs.declared.proof.fault.ApplyFault.{ApplyFault}
 use Rattle.mc_document.specs.declared.proof.fault.ApplyFault.TheVariants.{Premise, NoMemory}
@@ -74,7 +74,7 @@ cutting_at p q =
 
 -- a head may stand here
 abbrev pub may_head_at : Position → Stage → Bool
-may_head_at q cutting = not (is_chain q.form) && has_all_heads q.flow q.cuts
+may_head_at q cutting = has_all_heads q.flow q.cuts
 may_head_at q heading = true
 may_head_at q ruling = false
 may_head_at q finished = false
@@ -96,13 +96,13 @@ TellsFormed well flow defs = (raw : RawState) → (well raw ≡ true) ↔ IsWell
 -- a pass may stand here
 abbrev pub may_pass_at : Position → Stage → Bool
 may_pass_at q cutting = is_chain q.form && has_all_heads q.flow q.cuts
-may_pass_at q heading = false
+may_pass_at q heading = is_chain q.form && has_all_heads q.flow q.cuts
 may_pass_at q ruling = is_chain q.form
 may_pass_at q finished = false
 
 -- a pass
 abbrev pub passing_at : Position → Judged Position
-passing_at q = need 1 (may_pass_at q q.stage) (need 3 (is_cutting q.stage) (Ok (ruled_at q (roots q.flow []))))
+passing_at q = need 1 (may_pass_at q q.stage) (need 3 (not (is_ruling q.stage)) (Ok (ruled_at q (roots q.flow q.heads))))
 
 -- the end
 abbrev pub ending_at : Position → Judged Position

@@ -134,7 +134,7 @@ impl<'f> Proof<'f> {
         ensures { result ≡ may_head_at self.now self.now.stage }
     {
         match self.stage {
-            Stage::Cutting => !is_chain(self.form) && self.has_all_heads(),
+            Stage::Cutting => self.has_all_heads(),
             Stage::Heading => true,
             Stage::Ruling => false,
             Stage::Finished => false,
@@ -182,24 +182,23 @@ impl<'f> Proof<'f> {
     {
         match self.stage {
             Stage::Cutting => is_chain(self.form) && self.has_all_heads(),
-            Stage::Heading => false,
+            Stage::Heading => is_chain(self.form) && self.has_all_heads(),
             Stage::Ruling => is_chain(self.form),
             Stage::Finished => false,
         }
     }
 
-    /// A pass: the first one opens the entry.
+    /// A pass: the first one opens the entry and the heads.
     fn pass(&mut self) -> Result<(), ApplyFault>
         ensures { ComesTo (passing_at self.old) self.old self.new result }
     {
         if !self.may_pass() {
             return Err(ApplyFault::Premise(1));
         }
-        let is_first = is_cutting(self.stage);
-        if !is_first {
+        if is_ruling(self.stage) {
             return Err(ApplyFault::Premise(3));
         }
-        self.branches = roots(self.alloc, self.flow, &[])?;
+        self.branches = roots(self.alloc, self.flow, self.heads.as_slice())?;
         self.stage = Stage::Ruling;
         Ok(())
     }

@@ -37,7 +37,7 @@ pub record IsProved (flow : Flow) (defs : List Def) (f : Findings) : Type 0 wher
   pub report : IsCertificateReport flow defs valid.heads f.report.items
 
 -- the document spells a chain of one pass with so many stuck branches, of which no more than 65,536 branches are ended, with the
--- loop heads as its cuts, and the report is that of the stuck branches
+-- loop heads as its cuts, and the report is that of its heads and the stuck branches
 pub record HasAlarms (flow : Flow) (defs : List Def) (f : Findings) (count : ℕ) : Type 0 where
   pub lines : List Line
   pub stuck : List Path
@@ -45,7 +45,7 @@ pub record HasAlarms (flow : Flow) (defs : List Def) (f : Findings) (count : ℕ
   pub chain : IsShortChain flow defs lines stuck
   pub within : ended_by lines ≤ 65536
   pub places : HasPlaces flow defs Chain lines
-  pub report : IsChainReport flow defs stuck f.report.items
+  pub report : IsChainReport flow defs chain.heads stuck f.report.items
   pub counted : count ≡ length stuck
   pub some : 0 < count
 

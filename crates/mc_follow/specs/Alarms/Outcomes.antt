@@ -22,7 +22,7 @@ use Rattle.mc_document.specs.Places.{HasPlaces}
 pub record IsWhole (flow : Flow) (defs : List Def) (d : Document) : Type 0 where
   pub stuck : List Path
   pub chain : IsShortChain flow defs d.lines.items stuck
-  pub report : IsChainReport flow defs stuck d.text.items
+  pub report : IsChainReport flow defs chain.heads stuck d.text.items
   pub counted : d.count ≡ length stuck
   pub within : ended_by d.lines.items ≤ 65536
   pub places : HasPlaces flow defs Chain d.lines.items

@@ -29,6 +29,7 @@ use Rattle.mc_kernel.specs.Progress.Progress.{IsInside, advances}
 use Rattle.mc_document.specs.Places.{AreInPlace, cuts_of, may_stand}
 use Rattle.mc_document.specs.Proof.Lines.{setting_at}
 use Rattle.mc_document.specs.Proof.Positions.{Position, Stands}
+use Rattle.mc_follow.specs.Report.Heads.{heads_of}
 use Rattle.mc_follow.specs.Report.Report.{AreAlarmLines}
 use Rattle.mc_state.specs.declared.goal.Goal.{Goal}
 use Rattle.mc_rules_steps.specs.declared.gap.Gap.{Gap}
@@ -99,8 +100,8 @@ pub record IsReadTo (k : Knowledge) (well : RawState → Bool) (flow : Flow) (de
   pub stands : Stands k well last p
   pub alarms : AreAlarmLines flow defs last.stuck text
 
--- the lines are those of a chain of a valid flow graph without loops, each where it may stand, which is read up to here after its
--- pass, with so many ended branches, which are not too many
+-- the lines are those of a chain of a valid flow graph without loops, without heads, each where it may stand, which is read up to
+-- here after its pass, with so many ended branches, which are not too many
 pub record IsFollowed (flow : Flow) (defs : List Def) (lines : List Line) (p : Position) (text : List ℕ) (ended : ℕ) : Type 0 where
   pub valid : IsValid flow defs
   pub behind : List Line
@@ -113,6 +114,7 @@ pub record IsFollowed (flow : Flow) (defs : List Def) (lines : List Line) (p : P
   pub within : ended ≤ 65536
   pub no_loops : flow.heads ≡ []
   pub uncut : cuts_of lines ≡ []
+  pub unheaded : heads_of lines ≡ []
   pub in_place : (k : Knowledge) (well : RawState → Bool) → IsJudge k well flow defs → AreInPlace k well flow defs behind (begun Chain)
   pub form_is : p.form ≡ Chain
   pub no_cuts : p.cuts ≡ []

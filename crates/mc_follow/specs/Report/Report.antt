@@ -83,10 +83,6 @@ AreAlarmLines flow defs (b ∷ stuck) text =
 abbrev pub count_line : ℕ → Text
 count_line count = codes "alarms: " ++ decimal count ++ codes "\n"
 
--- the report of a chain with these stuck branches
-abbrev pub IsChainReport : Flow → List Def → List Path → Text → Type 0
-IsChainReport flow defs stuck text = (lines : Text) × AreAlarmLines flow defs stuck lines × (text ≡ lines ++ count_line (length stuck))
-
 -- how many of some heads are at a point
 abbrev pub heads_at : PointId → List WrittenHead → ℕ
 heads_at p heads = length (states_at p (states_of heads))
@@ -97,6 +93,12 @@ AreHeadLines flow defs before [] text = text ≡ []
 AreHeadLines flow defs before (h ∷ heads) text =
     (line : Text) × (later : Text) × IsHeadLine flow defs (heads_at h.0 before) h line
     × AreHeadLines flow defs (before ++ h ∷ []) heads later × (text ≡ line ++ later)
+
+-- the report of a chain with these heads and these stuck branches
+abbrev pub IsChainReport : Flow → List Def → List WrittenHead → List Path → Text → Type 0
+IsChainReport flow defs heads stuck text =
+    (front : Text) × (lines : Text) × AreHeadLines flow defs [] heads front × AreAlarmLines flow defs stuck lines
+    × (text ≡ front ++ (lines ++ count_line (length stuck)))
 
 -- the report of a certificate with these heads
 abbrev pub IsCertificateReport : Flow → List Def → List WrittenHead → Text → Type 0

@@ -14,7 +14,7 @@ use Rattle.mc_state.specs.declared.raw_state.RawState.{RawState}
 use Rattle.mc_state.specs.Fits.{IsWellMade}
 use Rattle.mc_state.specs.RawStates.{IsWellFormedRaw}
 use Rattle.mc_kernel.specs.Branches.{Path}
-use Rattle.mc_kernel.specs.Certificates.{IsLastPass}
+use Rattle.mc_kernel.specs.Certificates.{AreHeads, AreOrdered, IsLastPass, WrittenHead, states_of}
 use Rattle.mc_kernel.specs.Instances.{IsInstance}
 use Rattle.mc_kernel.specs.JudgedLaws.{IsAsked}
 use Rattle.mc_kernel.specs.Judges.{Knowledge}
@@ -63,13 +63,16 @@ pub record IsRefused (k : Knowledge) (well : RawState → Bool) (flow : Flow) (d
   pub read : reading_document k well flow defs form before ≡ Ok reading
   pub unmet : reading_line k well flow defs line reading ≡ Err premise
 
--- a chain of one pass: its header, its cuts, its pass, lines that end every branch, of which these are stuck, and the
--- end
+-- a chain of one pass: its header, its cuts, its heads in order, its pass, lines that end every branch from the entry and the
+-- heads, of which these are stuck, and the end
 pub record IsShortChain (flow : Flow) (defs : List Def) (lines : List Line) (stuck : List Path) : Type 0 where
   pub cuts : List PointId
+  pub heads : List WrittenHead
   pub rules : List Line
-  pub spelled : lines ≡ line.Header One Chain ∷ (map line.Cut cuts ++ (line.Pass ∷ (rules ++ line.End ∷ [])))
-  pub pass : IsLastPass flow defs cuts [] rules stuck
+  pub spelled : lines ≡ line.Header One Chain ∷ (map line.Cut cuts ++ (map (λ h. line.Head h.0 h.1) heads ++ (line.Pass ∷ (rules ++ line.End ∷ []))))
+  pub ordered : AreOrdered heads
+  pub heads_are : AreHeads flow defs cuts heads
+  pub pass : IsLastPass flow defs cuts (states_of heads) rules stuck
 
 -- a document of which some lines are read has heads that are well formed, and open branches whose states are well made
 pub record IsKept (flow : Flow) (defs : List Def) (r : Reading) : Type 0 where
