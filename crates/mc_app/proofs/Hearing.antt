@@ -9,7 +9,7 @@ use Rattle.mc_flow.specs.Valid.{IsValid}
 use Rattle.mc_document.specs.declared.judge.verdict.Verdict.{Verdict}
 use Rattle.mc_document.specs.Judge.Stages.{HasHeard, Hears, StaysFor}
 use Rattle.mc_document.specs.Judge.Verdicts.{IsVerdict, Tells}
-use Rattle.mc_kernel.specs.Certificates.{LastPassFindsFaults}
+use Rattle.mc_kernel.specs.Certificates.{LastPassFindsFaults, states_of}
 use Rattle.mc_kernel.specs.Judges.{Knowledge}
 use Rattle.mc_kernel.specs.Reading.Documents.{IsJudge}
 use Rattle.mc_state.specs.declared.raw_state.RawState.{RawState}
@@ -73,4 +73,4 @@ pub alarms_found : LastPassFindsFaults → (flow : Flow) (defs : List Def) → I
 alarms_found faults flow defs valid text v told count e =
     let chain = (told.alarms count).0 e in
     let short = chain.1.short in
-    (chain.0, chain.1, chain.2, faults flow defs short.cuts [] short.rules chain.0 valid short.pass)
+    (chain.0, chain.1, chain.2, faults flow defs short.cuts (states_of short.heads) short.rules chain.0 valid short.pass)

@@ -11,7 +11,7 @@ use Rattle.mc_flow.specs.declared.defs.rules.Def.{Def}
 use Rattle.mc_flow.specs.declared.graph.Flow.{Flow}
 use Rattle.mc_flow.specs.Valid.{IsValid}
 use Rattle.mc_kernel.specs.Branches.{Path}
-use Rattle.mc_kernel.specs.Certificates.{FaultsOnlyStuck, LastPassFindsFaults}
+use Rattle.mc_kernel.specs.Certificates.{FaultsOnlyStuck, LastPassFindsFaults, states_of}
 use Rattle.mc_app.specs.Analyses as analyses
 use Rattle.mc_app.specs.Blocked.{FaultsComeBy}
 use Rattle.mc_app.specs.Checks as checks
@@ -31,6 +31,6 @@ module _ (start : List ℕ) (unit : UnitTree) (defs : List Def) (flow : Flow) (c
   found_means faults valid (Safe f) safe is = safe f refl
   found_means faults valid (Alarms f count) safe is =
       let chain = is.chain in
-      comes is.stuck (faults flow defs chain.cuts [] chain.rules is.stuck valid chain.pass)
+      comes is.stuck (faults flow defs chain.cuts (states_of chain.heads) chain.rules is.stuck valid chain.pass)
   found_means faults valid (Paths document) safe is = tt
   found_means faults valid Unknown safe is = tt

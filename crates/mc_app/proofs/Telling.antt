@@ -139,6 +139,7 @@ alarms_tell holds words (Analysed (results.Found (analysis.Alarms f count))) old
       read.1,
       (
         found.0,
+        alarming.chain.heads,
         alarming.stuck,
         f.report.items,
         alarming.report,

@@ -205,9 +205,12 @@ module _ (law : TrueIsNotFalse) (know : State → Test) where
   has_one_alarm = (
     record {
       cuts = ex.at 1 ∷ [];
+      written = [];
       passes = first_pass ∷ second_pass ∷ [];
       spelled = refl;
       cuts_are = cuts_are;
+      ordered = tt;
+      written_are = tt;
       stuck = gone 8 fails ∷ [];
       heads = heads;
       reads = (refl, [], heads, opens, reads);
@@ -219,6 +222,6 @@ module _ (law : TrueIsNotFalse) (know : State → Test) where
 
   pub is_early : IsUnfinished know assert_flow [] short_document
   is_early = (
-    record { cuts = ex.at 1 ∷ []; passes = first_pass ∷ []; spelled = refl; cuts_are = cuts_are; stuck = []; heads = heads; reads = opens },
+    record { cuts = ex.at 1 ∷ []; written = []; passes = first_pass ∷ []; spelled = refl; cuts_are = cuts_are; ordered = tt; written_are = tt; stuck = []; heads = heads; reads = opens },
     refl,
   )

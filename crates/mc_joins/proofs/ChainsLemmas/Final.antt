@@ -16,7 +16,7 @@ use Rattle.mc_state.specs.Laws.{UnknownIsBounded}
 use Rattle.mc_state.specs.State.{State}
 use Rattle.mc_joins.specs.Same.Same.{anew}
 use Rattle.mc_kernel.specs.Branches.{Head, Path, AreCuts, entry_path, begins, roots, states_at}
-use Rattle.mc_kernel.specs.Certificates.{IsLastPass, LastPassFindsFaults}
+use Rattle.mc_kernel.specs.Certificates.{AreHeads, IsLastPass, LastPassFindsFaults, WrittenHead, states_of}
 use Rattle.mc_kernel.specs.Instances.{IsInstance, Reads}
 use Rattle.mc_joins.specs.Parts.{Basis}
 use Rattle.mc_kernel.specs.Reading.Documents.{IsMade}
@@ -181,9 +181,16 @@ module _ (made_lines : LinesMakeWellMade) (unknown : UnknownIsBounded) (flow : F
   last_of cuts_are round (rules ∷ more ∷ passes) stuck heads after good none (changed, own, mid, pass, reads) =
       last_of cuts_are (suc round) (more ∷ passes) stuck mid after (pass_keeps round rules (roots flow heads) own heads mid good (roots_made heads good) pass) none reads
 
+-- the states of written heads are at cuts, and well made
+good_heads : (cuts : List PointId) (flow : Flow) (defs : List Def) (written : List WrittenHead) → AreHeads flow defs cuts written
+    → AllByRecursion (λ (h : Head). Contains cuts h.0 × IsWellMade defs flow.vars flow.structs.list h.1) (states_of written)
+good_heads cuts flow defs [] a = tt
+good_heads cuts flow defs (h ∷ written) a = ((a.0.0, a.0.1.made), good_heads cuts flow defs written a.1)
+
 pub has_last_pass : LinesMakeWellMade → UnknownIsBounded → AnewIsBounded → JoinsMakeWell → FinalChainHasLastPass
 has_last_pass made_lines unknown anew_bounded joins know flow defs lines c valid knows final =
-    last_of made_lines unknown flow defs valid know (new_states anew_bounded joins know flow defs knows) c.cuts c.cuts_are 1 c.passes c.stuck [] c.heads tt final c.reads
+    last_of made_lines unknown flow defs valid know (new_states anew_bounded joins know flow defs knows) c.cuts c.cuts_are 1 c.passes c.stuck (states_of c.written) c.heads
+    (good_heads c.cuts flow defs c.written c.written_are) final c.reads
 
 pub finds_faults : LinesMakeWellMade → UnknownIsBounded → AnewIsBounded → JoinsMakeWell → LastPassFindsFaults → FinalChainFindsFaults
 finds_faults made_lines unknown anew_bounded joins faults know flow defs lines c valid knows final =

@@ -3,6 +3,7 @@ use Rattle.std.specs.Prelude.{◌≡◌, ◌<◌, ℕ, suc, Bool, true, false, L
 use Rattle.std.specs.List.{list_any}
 use Rattle.mc_base.specs.declared.ids.PointId.{PointId}
 use Rattle.mc_lines.specs.declared.cert.line.Line.{Line}
+use Rattle.mc_lines.specs.declared.cert.line.Line.TheVariants as line
 use Rattle.mc_lines.specs.declared.cert.line.Line.TheVariants.{Header, Cut, Pass, End, C2, C3}
 use Rattle.mc_flow.specs.declared.defs.rules.Def.{Def}
 use Rattle.mc_flow.specs.declared.graph.Flow.{Flow}
@@ -12,6 +13,7 @@ use Rattle.mc_state.specs.declared.line.Version.TheVariants.{One}
 use Rattle.mc_state.specs.Fits.{IsWellMade}
 use Rattle.mc_state.specs.State.{State}
 use Rattle.mc_kernel.specs.Branches.{Head, Path, Setting, AreCuts, roots}
+use Rattle.mc_kernel.specs.Certificates.{AreHeads, AreOrdered, WrittenHead, states_of}
 use Rattle.mc_kernel.specs.Instances.{IsInstance, stuck_by}
 use Rattle.mc_joins.specs.Parts.{Basis}
 use Rattle.mc_joins.specs.Chains.Opened.{OpensState, JoinsState}
@@ -68,16 +70,20 @@ last_pass (rules ∷ more ∷ passes) = last_pass (more ∷ passes)
 abbrev pub KnowsStates : Flow → List Def → (State → Test) → Type 0
 KnowsStates flow defs know = (s : State) → IsWellMade defs flow.vars flow.structs.list s → Tells (know s) s
 
--- a legal chain, by what is entailed in states: its header, its cuts, its passes, which begin with no state at any
--- cut, and the end
+-- a legal chain, by what is entailed in states: its header, its cuts, its heads in order, its passes, which begin with the states
+-- of the heads, and the end
 pub record IsLegalChain (know : State → Test) (flow : Flow) (defs : List Def) (lines : List Line) : Type 0 where
   pub cuts : List PointId
+  pub written : List WrittenHead
   pub passes : List (List Line)
-  pub spelled : lines ≡ Header One Chain ∷ (map Cut cuts ++ (flat_map (λ rules. Pass ∷ rules) passes ++ End ∷ []))
+  pub spelled : lines ≡ Header One Chain
+      ∷ (map Cut cuts ++ (map (λ h. line.Head h.0 h.1) written ++ (flat_map (λ rules. Pass ∷ rules) passes ++ End ∷ [])))
   pub cuts_are : AreCuts flow cuts
+  pub ordered : AreOrdered written
+  pub written_are : AreHeads flow defs cuts written
   pub stuck : List Path
   pub heads : List Head
-  pub reads : ReadsPasses flow (record { know = know; defs = defs }) cuts 1 passes stuck [] heads
+  pub reads : ReadsPasses flow (record { know = know; defs = defs }) cuts 1 passes stuck (states_of written) heads
 
 -- it is final: its last pass changes no state of a cut
 abbrev pub IsFinal : List (List Line) → Type 0

@@ -1,6 +1,6 @@
 -- What the lines of chains give, or the first premise that is unmet, and chains that are read line by line.
 use Rattle.std.specs.Prelude.{◌==◌, ◌&&◌, ◌||◌, ◌++◌, not, ℕ, suc, Bool, true, false, List, [], ◌∷◌, Option, Some, None, Result, Ok, Err}
-use Rattle.std.specs.Prelude.{is_none, is_some, length, option_and_then, slice_get, if◌then◌else◌}
+use Rattle.std.specs.Prelude.{is_none, is_some, length, nat_lt, option_and_then, slice_get, if◌then◌else◌}
 use Rattle.std.specs.List.{list_all}
 use Rattle.mc_base.specs.declared.ids.PointId.{PointId}
 use Rattle.mc_base.specs.declared.plain.Atom.{Atom}
@@ -12,11 +12,13 @@ use Rattle.mc_state.specs.Known.{is_false}
 use Rattle.mc_state.specs.Lists.{all_both}
 use Rattle.mc_state.specs.Premises.{Judged, need, have, then_give}
 use Rattle.mc_state.specs.declared.line.JoinStep.{JoinStep}
+use Rattle.mc_state.specs.declared.raw_state.RawState.{RawState}
+use Rattle.mc_state.specs.RawStates.{state_of}
 use Rattle.mc_state.specs.State.{State}
 use Rattle.mc_rules_steps.specs.Operands.{code_at}
 use Rattle.mc_joins.specs.Same.Same.{anew}
 use Rattle.mc_kernel.specs.Branches.{Head, Path, Setting, roots, states_at}
-use Rattle.mc_kernel.specs.Judges.{Knowledge, may_cut, is_chain, judged_line}
+use Rattle.mc_kernel.specs.Judges.{Knowledge, may_cut, is_chain, is_cut, judged_line}
 use Rattle.mc_kernel.specs.Readings.{has_all_heads, is_skip, comes_after, has_no_branch, first_branch, marked}
 use Rattle.mc_joins.specs.Joinings.{Joining, begun, next_pair}
 use Rattle.mc_joins.specs.Parts.{Basis}
@@ -25,10 +27,11 @@ use Rattle.mc_joins.specs.Whole.{result_of}
 use Rattle.mc_joins.specs.Chains.Chains.{changes, over}
 use Rattle.mc_joins.specs.Chains.Opened.{with_state_at, with_state_for}
 
--- what the lines of chains are judged by: what other lines are, which states are tidy, the atoms that a whole join
--- writes in a pass of a number, and which states are the same under some renaming
+-- what the lines of chains are judged by: what other lines are, which written states are well formed, which states are tidy, the
+-- atoms that a whole join writes in a pass of a number, and which states are the same under some renaming
 pub record Lore : Type 0 where
   pub lines : Knowledge
+  pub formed : RawState → Bool
   pub tidy : State → Bool
   pub joint : ℕ → Joining → List Atom
   pub same : State → State → Bool
@@ -80,9 +83,10 @@ joining_state k defs round g j steps b =
 
 -- ---- chains that are read line by line
 
--- how far a chain is read: its cuts, its passes, or the end
+-- how far a chain is read: its cuts, its heads, its passes, or the end
 pub data Stage : Type 0 where
   cutting : Stage
+  heading : Stage
   passing : Stage
   finished : Stage
 
@@ -104,12 +108,14 @@ begun_chain = record { stage = cutting; cuts = []; heads = []; round = 0; branch
 -- its cuts are still read
 abbrev pub is_cutting : Stage → Bool
 is_cutting cutting = true
+is_cutting heading = false
 is_cutting passing = false
 is_cutting finished = false
 
 -- its passes are
 abbrev pub is_passing : Stage → Bool
 is_passing cutting = false
+is_passing heading = false
 is_passing passing = true
 is_passing finished = false
 
@@ -121,9 +127,31 @@ reading_cut flow p r =
     (need 4 (comes_after r.cuts p)
     (Ok (record r { cuts = r.cuts ++ p ∷ [] }))))
 
--- a pass may stand here: after the cuts, among which are all loop heads, or after another pass
+-- a head may stand here: after the cuts, among which are all loop heads, and before the passes
+abbrev pub may_head : Flow → Reading → Stage → Bool
+may_head flow r cutting = has_all_heads flow r.cuts
+may_head flow r heading = true
+may_head flow r passing = false
+may_head flow r finished = false
+
+-- the point is not before that of the last state of a cut
+abbrev pub stands_behind : List Head → PointId → Bool
+stands_behind [] p = true
+stands_behind (h ∷ []) p = nat_lt h.0.0 (suc p.0)
+stands_behind (h ∷ i ∷ heads) p = stands_behind (i ∷ heads) p
+
+-- a head: at a cut, not less than the head before, with a well-formed state, which becomes the last state of the cut
+abbrev pub reading_head : Lore → Flow → PointId → RawState → Reading → Judged Reading
+reading_head k flow p raw r =
+    need 1 (may_head flow r r.stage)
+    (need 3 (is_cut r.cuts p && stands_behind r.heads p)
+    (need 4 (k.formed raw)
+    (Ok (record r { stage = heading; heads = r.heads ++ (p, state_of raw) ∷ [] }))))
+
+-- a pass may stand here: after the cuts, among which are all loop heads, after the heads, or after another pass
 abbrev pub may_pass : Flow → Reading → Stage → Bool
 may_pass flow r cutting = has_all_heads flow r.cuts
+may_pass flow r heading = true
 may_pass flow r passing = true
 may_pass flow r finished = false
 
@@ -131,7 +159,7 @@ may_pass flow r finished = false
 abbrev pub reading_pass : Flow → Reading → Judged Reading
 reading_pass flow r =
     need 1 (may_pass flow r r.stage)
-    (need 3 (has_no_branch r.branches && (is_cutting r.stage || r.changed))
+    (need 3 (has_no_branch r.branches && (not (is_passing r.stage) || r.changed))
     (Ok (record r { stage = passing; round = suc r.round; branches = roots flow r.heads; stuck = []; changed = false })))
 
 -- the end: after a pass, and no branch is open
@@ -170,7 +198,7 @@ reading_rule k flow defs l r =
 abbrev pub reading_line : Lore → Flow → List Def → Line → Reading → Judged Reading
 reading_line k flow defs (line.Header version form) r = Err 1
 reading_line k flow defs (line.Cut p) r = reading_cut flow p r
-reading_line k flow defs (line.Head p raw) r = Err 1
+reading_line k flow defs (line.Head p raw) r = reading_head k flow p raw r
 reading_line k flow defs line.Pass r = reading_pass flow r
 reading_line k flow defs line.End r = reading_end r
 reading_line k flow defs l r = reading_rule k flow defs l r
@@ -206,6 +234,7 @@ verdict_by (b ∷ bs) = alarms (suc (length bs))
 -- the chain has ended or not
 abbrev pub verdict_at : Stage → Reading → Verdict
 verdict_at cutting r = ends_early
+verdict_at heading r = ends_early
 verdict_at passing r = ends_early
 verdict_at finished r = if r.changed then unfinished else verdict_by r.stuck
 

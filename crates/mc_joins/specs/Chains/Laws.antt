@@ -9,6 +9,8 @@ use Rattle.mc_flow.specs.Valid.{IsValid}
 use Rattle.mc_state.specs.Known.{Test}
 use Rattle.mc_state.specs.Premises.{IsJudged}
 use Rattle.mc_state.specs.declared.line.JoinStep.{JoinStep}
+use Rattle.mc_state.specs.declared.raw_state.RawState.{RawState}
+use Rattle.mc_state.specs.RawStates.{IsWellFormedRaw}
 use Rattle.mc_state.specs.Facts.{IsTidy}
 use Rattle.mc_state.specs.Fits.{IsWellMade}
 use Rattle.mc_state.specs.State.{State}
@@ -41,6 +43,7 @@ pub record IsWholeJoin (know : State → Test) (flow : Flow) (defs : List Def) (
 -- what the lines of chains are judged by is right
 pub record IsRight (k : Lore) (flow : Flow) (defs : List Def) : Type 0 where
   pub knows : KnowsStates flow defs k.lines.know
+  pub formed : (raw : RawState) → (k.formed raw ≡ true) ↔ IsWellFormedRaw defs flow.vars flow.structs.list raw
   pub tidy : (s : State) → Made flow defs s → (k.tidy s ≡ true) ↔ IsTidy s
   pub joint : (round : ℕ) (left right : State) (steps : List JoinStep) (last : Joining)
       → IsWholeJoin k.lines.know flow defs left right steps last
