@@ -1,7 +1,7 @@
 -- Chains that are read for their reports.
-use Rattle.std.proofs.Common.{◌≡◌, ◌≢◌, ◌++◌, ◌∷◌, ◌∙◌, ◌+◌, ◌<◌, ◌≤◌, ℕ, List, [], Bool, true, false, Option, Some, None, refl, sym, ap, subst, length, drop, get_or, append_assoc}
+use Rattle.std.proofs.Common.{◌≡◌, ◌≢◌, ◌++◌, ◌∷◌, ◌∙◌, ◌+◌, ◌-◌, ◌<◌, ◌≤◌, ℕ, List, [], Bool, true, false, Option, Some, None, refl, sym, ap, subst, length, drop, take, get_or, append_assoc, length-drop, arith}
 use Rattle.std.specs.Prelude.{Err, IfOk, IfSome, Ok, Result}
-use Rattle.std.proofs.lemmas.List.{append-nil}
+use Rattle.std.proofs.lemmas.List.{append-nil, take_all}
 use Rattle.mc_lines.specs.declared.cert.line.Line.{Line}
 use Rattle.mc_lines.specs.declared.cert.line.Line.TheVariants as line
 use Rattle.mc_flow.specs.declared.defs.rules.Def.{Def}
@@ -83,10 +83,10 @@ module _ (flow : Flow) (defs : List Def) where
       → (stuck ≡ true → (own : Text) × IsAlarmLine flow defs b.point b.state own × (new ≡ old ++ own))
       → (stuck ≡ false → (new ≡ old) × ((gap : Gap) → IsUnmet flow defs b.point b.state gap → ⊥))
       → IsUnmet flow defs b.point b.state gap → IsAlarmLine flow defs b.point b.state new
-  alarm_told b gap old new true none yes no unmet =
-      let own = yes refl in
+  alarm_told b gap old new true none lacks met unmet =
+      let own = lacks refl in
       subst (λ (t : Text). IsAlarmLine flow defs b.point b.state t) (sym (own.2 ∙ ap (λ (t : Text). t ++ own.0) none)) own.1
-  alarm_told b gap old new false none yes no unmet = absurd ((no refl).1 gap unmet)
+  alarm_told b gap old new false none lacks met unmet = absurd ((met refl).1 gap unmet)
 
   pub other_adds : (p : Position) (l : Line) (text : Text) → l ≢ line.C1 → text ≡ [] → AddsAlarm flow defs p l text
   other_adds p line.C1 text other none = absurd (other refl)
@@ -325,6 +325,12 @@ module _ (laws : DocumentsAreFollowed) (flow : Flow) (defs : List Def) (valid : 
       still (sym (ap (λ (q : Position). q.stage) r.stands.here) ∙ ap (λ (s : Reading). s.stage) (sym same) ∙ ends.ended)
 
 -- ---- lines up to a place
+
+-- the first line, and the others
+pub first_rest : (lines : List Line) (l : Line) → 0 < length lines → l ≡ get_or lines 0 l → lines ≡ l ∷ take (length lines - 1) (drop 1 lines)
+first_rest lines l within is =
+    let left : length (drop 1 lines) ≡ length lines - 1 = length-drop 1 lines in
+    rest_at lines 0 l within is ∙ ap (λ (ls : List Line). l ∷ ls) (sym (take_all (length lines - 1) (drop 1 lines) (omega (arith, left))))
 
 -- the lines up to the rest are read
 pub record IsDraftUpTo (flow : Flow) (defs : List Def) (lines rest : List Line) (d : Draft) : Type 0 where

@@ -18,12 +18,12 @@ take-requires-clause-read c = (c.loop-line.invariant.before, c.loop-line.invaria
 pub loop-line-preserved : goal.loop-line-preserved
 loop-line-preserved c =
     next_draft c.args.flow.now c.args.defs.now c.args.lines.now c.loop-line.line-index c.line-item.result c.loop-line.draft c.loop-line-test.true c.line-item.is
-    c.loop-line.invariant c.take.new.self (c.in_ok-take.ensures.taken c.if-not-line.false)
+    c.loop-line.invariant c.take.new.self (c.in_ok-take.ensures.taken c.if-not-branch.false)
 
-pub returns-then-not-line-clause-none : goal.returns-then-not-line-clause-none
-returns-then-not-line-clause-none c = λ none.
+pub returns-then-not-branch-clause-none : goal.returns-then-not-branch-clause-none
+returns-then-not-branch-clause-none c = λ none.
     none_from c.args.flow.now c.args.defs.now c.args.lines.now c.loop-line.line-index c.line-item.result c.loop-line.draft c.loop-line-test.true c.line-item.is
-    c.loop-line.invariant (c.in_ok-take.ensures.refused c.if-not-line.true)
+    c.loop-line.invariant (c.in_ok-take.ensures.refused c.if-not-branch.true)
 
 pub returns-clause-some : goal.returns-clause-some
 returns-clause-some c =

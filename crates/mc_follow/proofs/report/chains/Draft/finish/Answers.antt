@@ -12,6 +12,6 @@ returns-in-Ok-clause-some c = λ lines draft.
     ∙ ap (λ (t : Text). t ++ count_line c.in-Ok.complete.alarms)
     (c.in_ok-extend_from_slice-in-Ok.ensures.items ∙ ap (λ (t : Text). old.heads.items ++ t) c.as_slice.ensures.value)) draft
 
-pub returns-in-Err-clause-none : goal.returns-in-Err-clause-none
-returns-in-Err-clause-none c = λ none lines draft.
+pub returns-clause-none : goal.returns-clause-none
+returns-clause-none c = λ none lines draft.
     unended_is_none c.documents_are_followed.ensures c.args.flow.now c.args.defs.now c.requires lines c.args.self c.in-Err.ensures.err.1 draft
