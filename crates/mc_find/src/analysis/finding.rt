@@ -136,7 +136,12 @@ fn without_loops(alloc: Global, flow: &Flow, defs: &Defs) -> Result<Analysis, No
 }
 
 // What is proposed, as it is answered.
-fn answered(alloc: Global, flow: &Flow, defs: &Defs, proposed: Proposed) -> Result<Analysis, NoMemory>
+fn answered(
+    alloc: Global,
+    flow: &Flow,
+    defs: &Defs,
+    proposed: Proposed,
+) -> Result<Analysis, NoMemory>
     requires { IsProposed flow.now defs.now proposed }
     ensures { IfOk result (IsAnalysis flow.now defs.now) }
 {
@@ -154,7 +159,12 @@ fn answered(alloc: Global, flow: &Flow, defs: &Defs, proposed: Proposed) -> Resu
 }
 
 // Where no certificate was found, a chain with alarms is searched for.
-fn with_alarms(alloc: Global, flow: &Flow, defs: &Defs, limits: Limits) -> Result<Analysis, NoMemory>
+fn with_alarms(
+    alloc: Global,
+    flow: &Flow,
+    defs: &Defs,
+    limits: Limits,
+) -> Result<Analysis, NoMemory>
     requires valid { IsValid flow.now defs.now }
     requires loops { flow.now.heads ≡ [] → ⊥ }
     ensures { IfOk result (IsAnalysis flow.now defs.now) }
