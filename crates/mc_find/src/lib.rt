@@ -5,6 +5,7 @@
 #![tactic(auto)]
 
 mod accepted;
+mod alarming;
 pub mod analysis;
 mod cuts;
 mod finding;
