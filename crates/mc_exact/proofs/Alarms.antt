@@ -111,18 +111,18 @@ module _ (laws : RunLaws) (flow : Flow) (defs : List Def) (v : Valuation) (c : C
       let P : Option (List ℤ) → Type 0 = λ a. Assumes defs pred x q place c choices a (last (fault Uninit place)) in
       subst P (sym none) refl)
   unknown_faults (instr.AssertShape pred o os q) y choices is h = faults (instr.AssertShape pred o os q) Uninit choices is (λ place. asserted place o h)
-      where
-        asserted : (place : Place) (o : Operand) → IsFirstUnknown s (o ∷ os) y → Asserts defs pred q place c choices (value_of c.vars o) (values_of c.vars os) (last (fault Uninit place))
-        asserted place (Const k) h = (let P : Option (List ℤ) → Type 0 = λ a. Asserts defs pred q place c choices (Some k) a (last (fault Uninit place)) in subst P (sym (some_none os y h)) refl)
-        asserted place (Var z) (inl h) =
-            let none = var_value laws flow defs v c p s z at ∙ ap (option_map (at_node v)) h.0 in
-            let P : Option ℤ → Type 0 = λ a. Asserts defs pred q place c choices a (values_of c.vars os) (last (fault Uninit place)) in
-            subst P (sym none) refl
-        asserted place (Var z) (inr h) =
-            let some = var_value laws flow defs v c p s z at ∙ ap (option_map (at_node v)) h.1 in
-            let P : Option ℤ → Type 0 = λ a. Asserts defs pred q place c choices a (values_of c.vars os) (last (fault Uninit place)) in
-            let Q : Option (List ℤ) → Type 0 = λ a. Asserts defs pred q place c choices (Some (v h.0.0)) a (last (fault Uninit place)) in
-            subst P (sym some) (subst Q (sym (some_none os y h.2)) refl)
+    where
+      asserted : (place : Place) (o : Operand) → IsFirstUnknown s (o ∷ os) y → Asserts defs pred q place c choices (value_of c.vars o) (values_of c.vars os) (last (fault Uninit place))
+      asserted place (Const k) h = (let P : Option (List ℤ) → Type 0 = λ a. Asserts defs pred q place c choices (Some k) a (last (fault Uninit place)) in subst P (sym (some_none os y h)) refl)
+      asserted place (Var z) (inl h) =
+          let none = var_value laws flow defs v c p s z at ∙ ap (option_map (at_node v)) h.0 in
+          let P : Option ℤ → Type 0 = λ a. Asserts defs pred q place c choices a (values_of c.vars os) (last (fault Uninit place)) in
+          subst P (sym none) refl
+      asserted place (Var z) (inr h) =
+          let some = var_value laws flow defs v c p s z at ∙ ap (option_map (at_node v)) h.1 in
+          let P : Option ℤ → Type 0 = λ a. Asserts defs pred q place c choices a (values_of c.vars os) (last (fault Uninit place)) in
+          let Q : Option (List ℤ) → Type 0 = λ a. Asserts defs pred q place c choices (Some (v h.0.0)) a (last (fault Uninit place)) in
+          subst P (sym some) (subst Q (sym (some_none os y h.2)) refl)
   unknown_faults (instr.Skip q) y choices is h = absurd h
   unknown_faults (instr.Undef xs q) y choices is h = absurd h
   unknown_faults (instr.Input x q) y choices is h = absurd h
@@ -185,7 +185,7 @@ pointer_up v s n (inr is) holds = (kind_holds v s.kinds n Ptr holds.kinds is).0
 
 module _ (laws : RunLaws) (flow : Flow) (defs : List Def) (v : Valuation) (c : Config) (p : PointId) (s : State) (at : IsExactly v c p s) (holds : IsTrueIn v s) (separate : AreSeparate v s)
     (bases : (y : VarId) (n : NodeId) → var_node s y ≡ Some n → (x : VarId) (shape : StructId) (f : ℕ) (o : Operand) (q : PointId)
-        → (code_at flow p ≡ Some (instr.Load x y shape f q)) ⊎ ((code_at flow p ≡ Some (instr.Store y shape f o q)) ⊎ ((o ≡ Var y) × (code_at flow p ≡ Some (instr.Free o q)))) → HasKind s.kinds Ptr n)
+    → (code_at flow p ≡ Some (instr.Load x y shape f q)) ⊎ ((code_at flow p ≡ Some (instr.Store y shape f o q)) ⊎ ((o ≡ Var y) × (code_at flow p ≡ Some (instr.Free o q)))) → HasKind s.kinds Ptr n)
     (no_numbers : (k : ℤ) (q : PointId) → code_at flow p ≡ Some (instr.Free (Const k) q) → k ≡ pos 0) where
   apart : (n : NodeId) → HasKind s.kinds Ptr n → IsSeparate v s n
   apart n kind id m own fields there same = separate.separates n m kind (separate.starts id m own fields there) same

@@ -117,7 +117,9 @@ pub stored_back : (v : Valuation) (t : State) (id : EdgeId) (n : NodeId) (shape 
 stored_back v t id n shape fields others e i =
     let same = replaced_starts t.graph.edges id n shape fields others e in
     record {
-      null = i.null; kinds = i.kinds; atoms = i.atoms;
+      null = i.null;
+      kinds = i.kinds;
+      atoms = i.atoms;
       starts = subst (λ (ns : List NodeId). AllByRecursion (IsAddressed v) ns) same i.starts;
       apart = subst (λ (ns : List NodeId). AreApart v ns) same i.apart;
     }
@@ -134,8 +136,7 @@ pub block_back : (v : Valuation) (s : State) (shape : StructId) (count : ℕ) �
 block_back v s shape count i =
     let same = more_starts s.graph.edges (record { 0 = s.graph.next }) (next_node s) shape (replicate count None) in
     let starts = subst (λ (ns : List NodeId). AllByRecursion (IsAddressed v) ns) same i.starts in
-    let apart = subst (λ (ns : List NodeId). AreApart v ns) same i.apart in
-    (
+    let apart = subst (λ (ns : List NodeId). AreApart v ns) same i.apart in (
       record {
         null = i.null;
         kinds = all_left (λ k. InKind k.1 (v k.0.0)) s.kinds ((next_node s, Ptr) ∷ []) i.kinds;

@@ -25,7 +25,6 @@ use Rattle.mc_pure.specs.Laws.{TrueIsNotFalse}
 use Rattle.mc_state.specs.Facts.{IsFalse}
 use Rattle.mc_state.specs.State.{State, pure_of, unknown, with_block, with_var}
 use Rattle.mc_rules_steps.specs.declared.gap.Gap.TheVariants.{NoBlock}
-use Rattle.mc_rules_steps.specs.Next.{Next}
 use Rattle.mc_rules_steps.specs.Operands.{HasBlock}
 use Rattle.mc_rules_steps.specs.Steps.{moved_to, S10Is}
 use Rattle.mc_rules_steps.specs.Unmet.{IsUnmet, LacksBlock}
@@ -107,9 +106,9 @@ module _ (law : TrueIsNotFalse) where
   null_is_exact = (
     refl,
     silent {ns = moved_to (ex.at 2) null_state ∷ []} (moved_to (ex.at 2) null_state) 0
-    (failed (moved_to (ex.at 1) null_state) entry allocates refl)
-    (rule.S11 (record { from = Var (ex.var 0); q = ex.at 2; at = refl; consistent = null_sound; n = null; known = refl; zero = inl (itself (Ptr, inl refl)); gives = refl }))
-    refl,
+        (failed (moved_to (ex.at 1) null_state) entry allocates refl)
+        (rule.S11 (record { from = Var (ex.var 0); q = ex.at 2; at = refl; consistent = null_sound; n = null; known = refl; zero = inl (itself (Ptr, inl refl)); gives = refl }))
+        refl,
   )
 
   -- the cell goes
@@ -120,21 +119,21 @@ module _ (law : TrueIsNotFalse) where
   freed_is_exact = (
     refl,
     silent {ns = moved_to (ex.at 2) freed_state ∷ []} (moved_to (ex.at 2) freed_state) 0
-    (made (moved_to (ex.at 1) made_state) entry allocates refl)
-    (rule.S12 (record {
-      from = Var (ex.var 0);
-      q = ex.at 2;
-      at = refl;
-      consistent = made_sound;
-      n = node 1;
-      known = refl;
-      before = made_state;
-      operand = refl;
-      shape = cell_id;
-      block = frees;
-      gives = refl;
-    }))
-    refl,
+        (made (moved_to (ex.at 1) made_state) entry allocates refl)
+        (rule.S12 (record {
+          from = Var (ex.var 0);
+          q = ex.at 2;
+          at = refl;
+          consistent = made_sound;
+          n = node 1;
+          known = refl;
+          before = made_state;
+          operand = refl;
+          shape = cell_id;
+          block = frees;
+          gives = refl;
+        }))
+        refl,
   )
 
   pub null_is_unmet : IsUnmet freed_flow defs (ex.at 2) null_state (NoBlock null)

@@ -132,11 +132,15 @@ module _ (laws : RunLaws) (flow : Flow) (defs : List Def) (v : Valuation) where
           (code.point, Null, code.there, code.steps choices (last (fault Null code.point.place)) (sym (ap (loaded x shape f q code.point.place c choices) value)))
       by (pos (suc k)) e le =
           let code = has_code flow defs p (instr.Load x y shape f q) c is at.point in
-          let value = var_value laws flow defs v c p s y at ∙ ap (option_map (at_node v)) known' ∙ ap Some e in
-          (code.point, Freed, code.there, code.steps choices (last (fault Freed code.point.place))
-          (sym (ap (loaded x shape f q code.point.place c choices) value
-          ∙ ap (λ (b : Bool). if b then last (fault Null code.point.place) else found x q code.point.place c choices (field_at (region_of c.heap (suc k)) shape.0 f)) (not_zero k)
-          ∙ ap (found x q code.point.place c choices) (absent c p s n shape f k at ids apart lacks e))))
+          let value = var_value laws flow defs v c p s y at ∙ ap (option_map (at_node v)) known' ∙ ap Some e in (
+            code.point,
+            Freed,
+            code.there,
+            code.steps choices (last (fault Freed code.point.place))
+                (sym (ap (loaded x shape f q code.point.place c choices) value
+                ∙ ap (λ (b : Bool). if b then last (fault Null code.point.place) else found x q code.point.place c choices (field_at (region_of c.heap (suc k)) shape.0 f)) (not_zero k)
+                ∙ ap (found x q code.point.place c choices) (absent c p s n shape f k at ids apart lacks e))),
+          )
 
   -- a read of a field that is not known
   pub field_faults : (c : Config) (p : PointId) (s : State) (x y : VarId) (shape : StructId) (f : ℕ) (q : PointId) (n : NodeId) (choices : List Choice) → code_at flow p ≡ Some (instr.Load x y shape f q)
@@ -145,13 +149,17 @@ module _ (laws : RunLaws) (flow : Flow) (defs : List Def) (v : Valuation) where
       let code = has_code flow defs p (instr.Load x y shape f q) c is at.point in
       let l = lies laws flow defs v c p s n shape at holds b in
       let value = var_value laws flow defs v c p s y at ∙ ap (option_map (at_node v)) known' ∙ ap Some l.leads in
-      let read : slice_get (values_by v b.fields) f ≡ Some None = field_by v b.fields f ∙ ap (option_map (option_map (at_node v))) field in
-      (code.point, Uninit, code.there, code.steps choices (last (fault Uninit code.point.place))
-      (sym (ap (loaded x shape f q code.point.place c choices) value
-      ∙ ap (λ (b : Bool). if b then last (fault Null code.point.place) else found x q code.point.place c choices (field_at (region_of c.heap (suc l.k)) shape.0 f)) (not_zero l.k)
-      ∙ ap (λ (o : Option heap.Block). found x q code.point.place c choices (field_at o shape.0 f)) l.here
-      ∙ ap (λ (b' : Bool). found x q code.point.place c choices (if b' then slice_get (values_by v b.fields) f else None)) (eq-eqb shape.0 shape.0 refl)
-      ∙ ap (found x q code.point.place c choices) read)))
+      let read : slice_get (values_by v b.fields) f ≡ Some None = field_by v b.fields f ∙ ap (option_map (option_map (at_node v))) field in (
+        code.point,
+        Uninit,
+        code.there,
+        code.steps choices (last (fault Uninit code.point.place))
+            (sym (ap (loaded x shape f q code.point.place c choices) value
+            ∙ ap (λ (b : Bool). if b then last (fault Null code.point.place) else found x q code.point.place c choices (field_at (region_of c.heap (suc l.k)) shape.0 f)) (not_zero l.k)
+            ∙ ap (λ (o : Option heap.Block). found x q code.point.place c choices (field_at o shape.0 f)) l.here
+            ∙ ap (λ (b' : Bool). found x q code.point.place c choices (if b' then slice_get (values_by v b.fields) f else None)) (eq-eqb shape.0 shape.0 refl)
+            ∙ ap (found x q code.point.place c choices) read)),
+      )
 
   -- what is freed is not null, and no block lies there
   pub free_faults : (c : Config) (p : PointId) (s : State) (o : Operand) (q : PointId) (n : NodeId) (choices : List Choice) → code_at flow p ≡ Some (instr.Free o q)
@@ -167,11 +175,15 @@ module _ (laws : RunLaws) (flow : Flow) (defs : List Def) (v : Valuation) where
           let value = operand_value laws flow defs v c p s o n at holds lacks.0 ∙ ap Some e in
           let at' = operand_exact laws flow defs v c p s o at in
           let ids' : IdsAscend 0 (with_operand s o).graph.edges (with_operand s o).graph.next = subst (λ (g : Graph). IdsAscend 0 g.edges g.next) (sym (operand_edges laws flow defs v s o)) ids in
-          let none = nothing c p (with_operand s o) n k at' ids' apart (λ shape. (lacks.2 shape).block) e in
-          (code.point, BadFree, code.there, code.steps choices (last (fault BadFree code.point.place))
-          (sym (ap (freed q code.point.place c choices) value
-          ∙ ap (λ (b : Bool). if b then next (at_point q c) choices else freed_at q code.point.place c choices (suc k) (region_of c.heap (suc k))) (not_zero k)
-          ∙ ap (freed_at q code.point.place c choices (suc k)) none)))
+          let none = nothing c p (with_operand s o) n k at' ids' apart (λ shape. (lacks.2 shape).block) e in (
+            code.point,
+            BadFree,
+            code.there,
+            code.steps choices (last (fault BadFree code.point.place))
+                (sym (ap (freed q code.point.place c choices) value
+                ∙ ap (λ (b : Bool). if b then next (at_point q c) choices else freed_at q code.point.place c choices (suc k) (region_of c.heap (suc k))) (not_zero k)
+                ∙ ap (freed_at q code.point.place c choices (suc k)) none)),
+          )
 
   -- a failing instruction is reached
   pub fail_faults : (c : Config) (p : PointId) (s : State) (choices : List Choice) → code_at flow p ≡ Some instr.Fail → IsExactly v c p s → Faults flow defs p c choices

@@ -1,5 +1,5 @@
 -- Where a state is exactly a configuration, and one of its successors is true, the run goes there.
-use Rattle.std.proofs.Common.{◌≡◌, ◌≢◌, ◌<◌, ℕ, zero, suc, ℤ, pos, ◌+ℤ◌, ◌-ℤ◌, ◌*ℤ◌, ◌≤ℤ◌, Bool, true, false, Option, Some, None, List, [], ◌∷◌, ◌++◌, map, option_map, length, replicate, slice_get, slice_set, if◌then◌else◌, refl, sym, ap, ap₂, ◌∙◌, subst, arith, inl}
+use Rattle.std.proofs.Common.{◌≡◌, ◌≢◌, ◌<◌, ℕ, zero, suc, ℤ, pos, ◌+ℤ◌, ◌-ℤ◌, ◌*ℤ◌, ◌≤ℤ◌, Bool, true, false, Option, Some, None, List, [], ◌∷◌, ◌++◌, option_map, length, replicate, slice_get, slice_set, if◌then◌else◌, refl, sym, ap, ap₂, ◌∙◌, subst, arith, inl}
 use Rattle.std.specs.Prelude.{◌&&◌, slice_index_or, int_le}
 use Rattle.std.specs.FinMap as map
 use Rattle.std.specs.Ordering.{int_eq}
@@ -123,7 +123,9 @@ module _ (laws : RunLaws) (flow : Flow) (defs : List Def) (v : Valuation) where
   var_set c p q s x n at = record {
     point = refl;
     vars = ap (λ (l : List (Option ℤ)). slice_set l x.0 (Some (v n.0))) at.vars ∙ sym (set_by v s.env x.0 (Some n));
-    heap = at.heap; blocks = at.blocks; whole = at.whole;
+    heap = at.heap;
+    blocks = at.blocks;
+    whole = at.whole;
   }
 
   s1_goes : (c : Config) (p : PointId) (s : State) (ns : List Next) (n : Next) (place : ℕ) (choices : List Choice) → IsExactly v c p s → S1Is flow p s ns → slice_get ns place ≡ Some n → GoesTo flow defs v c choices choices n
@@ -141,10 +143,11 @@ module _ (laws : RunLaws) (flow : Flow) (defs : List Def) (v : Valuation) where
       let here' : IsTrueIn v t = record { null = here.null; kinds = here.kinds; atoms = here.atoms; starts = here.starts; apart = here.apart } in
       let value = operand_value c p s i.from i.n at here' i.known in
       let r = set_to i.x i.q c choices (v i.n.0) in
-      subst (GoesTo flow defs v c choices choices) same
-      (record { point = i.q.0; vars = with_value c.vars i.x (Some (v i.n.0)); heap = c.heap },
-      code.steps choices r (sym (ap (copied i.x i.q code.point.place c choices) value)),
-      var_set c p i.q t i.x i.n (operand_exact c p s i.from at))
+      subst (GoesTo flow defs v c choices choices) same (
+        record { point = i.q.0; vars = with_value c.vars i.x (Some (v i.n.0)); heap = c.heap },
+        code.steps choices r (sym (ap (copied i.x i.q code.point.place c choices) value)),
+        var_set c p i.q t i.x i.n (operand_exact c p s i.from at),
+      )
 
   -- ---- blocks
 
@@ -175,10 +178,11 @@ module _ (laws : RunLaws) (flow : Flow) (defs : List Def) (v : Valuation) where
       let value : value_in c.vars i.y ≡ Some (pos (suc l.k)) = var_value c p s i.y at ∙ ap (option_map (at_node v)) i.known ∙ ap Some l.leads in
       let read : slice_get (values_by v i.block.fields) i.f ≡ Some (Some (v i.m.0)) = field_by v i.block.fields i.f ∙ ap (option_map (option_map (at_node v))) i.field in
       let r = set_to i.x i.q c choices (v i.m.0) in
-      subst (GoesTo flow defs v c choices choices) same
-      (record { point = i.q.0; vars = with_value c.vars i.x (Some (v i.m.0)); heap = c.heap },
-      code.steps choices r (sym (ap (loaded i.x i.shape i.f i.q code.point.place c choices) value ∙ loaded_at i.x i.shape i.f i.q code.point.place c choices l.k (values_by v i.block.fields) (v i.m.0) l.here read)),
-      var_set c p i.q s i.x i.m at)
+      subst (GoesTo flow defs v c choices choices) same (
+        record { point = i.q.0; vars = with_value c.vars i.x (Some (v i.m.0)); heap = c.heap },
+        code.steps choices r (sym (ap (loaded i.x i.shape i.f i.q code.point.place c choices) value ∙ loaded_at i.x i.shape i.f i.q code.point.place c choices l.k (values_by v i.block.fields) (v i.m.0) l.here read)),
+        var_set c p i.q s i.x i.m at,
+      )
 
   s9_goes : (c : Config) (p : PointId) (s : State) (ns : List Next) (n : Next) (place : ℕ) (choices : List Choice) → IsExactly v c p s → IsTrueIn v s → S9Is flow p s ns → slice_get ns place ≡ Some n → IsTrueIn v n.state → GoesTo flow defs v c choices choices n
   s9_goes c p s ns n place choices at true' i e holds =
@@ -202,27 +206,29 @@ module _ (laws : RunLaws) (flow : Flow) (defs : List Def) (v : Valuation) where
       let is_new : new ≡ held v i.shape others = ap (λ (l : List (Option ℤ)). let b : heap.Block = record { shape = i.shape.0; fields = l } in b) (sym (set_by v b.fields i.f (Some i.m))) in
       let change : Changes (region_of c.heap) (region_of heap') (suc l.k) (Some (held v i.shape others)) = subst (λ (x : heap.Block). Changes (region_of c.heap) (region_of heap') (suc l.k) (Some x)) is_new (laws.insert c.heap (suc l.k) new) in
       let inside : i.f < length (values_by v b.fields) = (let lt = i.field in let len = length_by v b.fields in omega arith) in
-      subst (GoesTo flow defs v c choices choices) same
-      (record { point = i.q.0; vars = c.vars; heap = heap' },
-      code.steps choices (with_heap i.q c choices heap')
-      (sym (ap₂ (put_in i.shape i.f i.q code.point.place c choices) value base ∙ stored_at i.shape i.f i.q code.point.place c choices l.k (values_by v b.fields) (v i.m.0) l.here inside)),
-      record {
-        point = refl;
-        vars = at'.vars;
-        heap = heap_replaced v (region_of c.heap) (region_of heap') t.graph.edges b.id b.at i.shape b.fields others l.k at'.heap before.apart listed is_at change;
-        blocks = blocks_replaced t.graph.edges b.id b.at i.shape others at'.blocks;
-        whole = at'.whole;
-      })
+      subst (GoesTo flow defs v c choices choices) same (
+        record { point = i.q.0; vars = c.vars; heap = heap' },
+        code.steps choices (with_heap i.q c choices heap')
+            (sym (ap₂ (put_in i.shape i.f i.q code.point.place c choices) value base ∙ stored_at i.shape i.f i.q code.point.place c choices l.k (values_by v b.fields) (v i.m.0) l.here inside)),
+        record {
+          point = refl;
+          vars = at'.vars;
+          heap = heap_replaced v (region_of c.heap) (region_of heap') t.graph.edges b.id b.at i.shape b.fields others l.k at'.heap before.apart listed is_at change;
+          blocks = blocks_replaced t.graph.edges b.id b.at i.shape others at'.blocks;
+          whole = at'.whole;
+        },
+      )
 
   -- malloc answers null
   pub null_goes : (c : Config) (p : PointId) (s : State) (ns : List Next) (n : Next) (rest : List Choice) → IsExactly v c p s → S10Is flow p s ns → slice_get ns 0 ≡ Some n → IsTrueIn v n.state → GoesTo flow defs v c (malloc 0 ∷ rest) rest n
   null_goes c p s ns n rest at i e holds =
       let code = has_code flow defs p (instr.Malloc i.x i.shape i.q) c i.at at.point in
       let same : moved_to i.q (with_var s i.x (Some null)) ≡ n = one_item _ n (sym (ap (λ (l : List Next). slice_get l 0) i.gives) ∙ e) in
-      subst (GoesTo flow defs v c (malloc 0 ∷ rest) rest) same
-      (record { point = i.q.0; vars = with_value c.vars i.x (Some (v 0)); heap = c.heap },
-      code.steps (malloc 0 ∷ rest) (set_to i.x i.q c rest (v 0)) (ap (set_to i.x i.q c rest) holds.null),
-      var_set c p i.q s i.x null at)
+      subst (GoesTo flow defs v c (malloc 0 ∷ rest) rest) same (
+        record { point = i.q.0; vars = with_value c.vars i.x (Some (v 0)); heap = c.heap },
+        code.steps (malloc 0 ∷ rest) (set_to i.x i.q c rest (v 0)) (ap (set_to i.x i.q c rest) holds.null),
+        var_set c p i.q s i.x null at,
+      )
 
   -- malloc answers the number of the new block's node
   pub made_goes : (c : Config) (p : PointId) (s : State) (ns : List Next) (n : Next) (rest : List Choice) → IsExactly v c p s → S10Is flow p s ns → slice_get ns 1 ≡ Some n → IsTrueIn v n.state → GoesTo flow defs v c (malloc (address (v s.next)) ∷ rest) rest n
@@ -244,16 +250,17 @@ module _ (laws : RunLaws) (flow : Flow) (defs : List Def) (v : Valuation) where
       let change : Changes (region_of c.heap) (region_of heap') (suc a.0) (Some (held v i.shape (replicate count None))) = subst (λ (x : heap.Block). Changes (region_of c.heap) (region_of heap') (suc a.0) (Some x)) is_new (laws.insert c.heap (suc a.0) (fresh_block i.shape.0 count)) in
       let step : Step flow defs c (malloc (suc a.0) ∷ rest) (next d rest) = code.steps (malloc (suc a.0) ∷ rest) (next d rest) (in_reach, free', refl) in
       let choice : malloc (address (v s.next)) ≡ malloc (suc a.0) = ap (λ (x : ℤ). malloc (address x)) a.1 in
-      subst (GoesTo flow defs v c (malloc (address (v s.next)) ∷ rest) rest) same
-      (d,
-      subst (λ (x : Choice). Step flow defs c (x ∷ rest) (next d rest)) (sym choice) step,
-      record {
-        point = refl;
-        vars = ap₂ (λ (l : List (Option ℤ)) (z : ℤ). slice_set l i.x.0 (Some z)) at.vars (sym a.1) ∙ sym (set_by v s.env i.x.0 (Some (next_node s)));
-        heap = heap_made v (region_of c.heap) (region_of heap') s.graph.edges (record { 0 = s.graph.next }) (next_node s) i.shape (replicate count None) a.0 at.heap free a.1 change;
-        blocks = all_append (λ e. IsBlock e.1) s.graph.edges ((record { 0 = s.graph.next }, edge.Block (next_node s) i.shape (replicate count None)) ∷ []) at.blocks (tt, tt);
-        whole = at.whole;
-      })
+      subst (GoesTo flow defs v c (malloc (address (v s.next)) ∷ rest) rest) same (
+        d,
+        subst (λ (x : Choice). Step flow defs c (x ∷ rest) (next d rest)) (sym choice) step,
+        record {
+          point = refl;
+          vars = ap₂ (λ (l : List (Option ℤ)) (z : ℤ). slice_set l i.x.0 (Some z)) at.vars (sym a.1) ∙ sym (set_by v s.env i.x.0 (Some (next_node s)));
+          heap = heap_made v (region_of c.heap) (region_of heap') s.graph.edges (record { 0 = s.graph.next }) (next_node s) i.shape (replicate count None) a.0 at.heap free a.1 change;
+          blocks = all_append (λ e. IsBlock e.1) s.graph.edges ((record { 0 = s.graph.next }, edge.Block (next_node s) i.shape (replicate count None)) ∷ []) at.blocks (tt, tt);
+          whole = at.whole;
+        },
+      )
 
   s11_goes : (c : Config) (p : PointId) (s : State) (ns : List Next) (n : Next) (place : ℕ) (choices : List Choice) → IsExactly v c p s → S11Is flow p s ns → slice_get ns place ≡ Some n → IsTrueIn v n.state → GoesTo flow defs v c choices choices n
   s11_goes c p s ns n place choices at i e holds =
@@ -263,10 +270,11 @@ module _ (laws : RunLaws) (flow : Flow) (defs : List Def) (v : Valuation) where
       let here : IsTrueIn v t = subst (λ (m : Next). IsTrueIn v m.state) (sym same) holds in
       let value = operand_value c p s i.from i.n at here i.known in
       let zero' : v i.n.0 ≡ pos 0 = equal t i.n null here i.zero ∙ here.null in
-      subst (GoesTo flow defs v c choices choices) same
-      (at_point i.q c,
-      code.steps choices (next (at_point i.q c) choices) (sym (ap (freed i.q code.point.place c choices) (value ∙ ap Some zero'))),
-      elsewhere c p i.q t (operand_exact c p s i.from at))
+      subst (GoesTo flow defs v c choices choices) same (
+        at_point i.q c,
+        code.steps choices (next (at_point i.q c) choices) (sym (ap (freed i.q code.point.place c choices) (value ∙ ap Some zero'))),
+        elsewhere c p i.q t (operand_exact c p s i.from at),
+      )
 
   s12_goes : (c : Config) (p : PointId) (s : State) (ns : List Next) (n : Next) (place : ℕ) (choices : List Choice) → IsExactly v c p s → S12Is flow p s ns → slice_get ns place ≡ Some n → IsTrueIn v n.state → GoesTo flow defs v c choices choices n
   s12_goes c p s ns n place choices at i e holds =
@@ -283,17 +291,18 @@ module _ (laws : RunLaws) (flow : Flow) (defs : List Def) (v : Valuation) where
       let l = lies c p t i.n i.shape at' before b in
       let is_at : v b.at.0 ≡ pos (suc l.k) = sym (equal t i.n b.at before b.equal) ∙ l.leads in
       let heap' = map.remove c.heap (suc l.k) in
-      subst (GoesTo flow defs v c choices choices) same
-      (record { point = i.q.0; vars = c.vars; heap = heap' },
-      code.steps choices (with_heap i.q c choices heap')
-      (sym (ap (freed i.q code.point.place c choices) (value ∙ ap Some l.leads) ∙ freed_here i.q code.point.place c choices l.k (held v i.shape b.fields) l.here)),
-      record {
-        point = refl;
-        vars = at'.vars;
-        heap = heap_gone v (region_of c.heap) (region_of heap') t.graph.edges b.id b.at i.shape b.fields l.k at'.heap before.apart b.there is_at (laws.remove c.heap (suc l.k));
-        blocks = blocks_left t.graph.edges b.id at'.blocks;
-        whole = at'.whole;
-      })
+      subst (GoesTo flow defs v c choices choices) same (
+        record { point = i.q.0; vars = c.vars; heap = heap' },
+        code.steps choices (with_heap i.q c choices heap')
+            (sym (ap (freed i.q code.point.place c choices) (value ∙ ap Some l.leads) ∙ freed_here i.q code.point.place c choices l.k (held v i.shape b.fields) l.here)),
+        record {
+          point = refl;
+          vars = at'.vars;
+          heap = heap_gone v (region_of c.heap) (region_of heap') t.graph.edges b.id b.at i.shape b.fields l.k at'.heap before.apart b.there is_at (laws.remove c.heap (suc l.k));
+          blocks = blocks_left t.graph.edges b.id at'.blocks;
+          whole = at'.whole;
+        },
+      )
 
   s13_goes : (c : Config) (p : PointId) (s : State) (ns : List Next) (n : Next) (place : ℕ) (choices : List Choice) → IsExactly v c p s → S13Is flow p s ns → slice_get ns place ≡ Some n → IsTrueIn v n.state → GoesTo flow defs v c choices choices n
   s13_goes c p s ns n place choices at i e holds =
@@ -303,57 +312,59 @@ module _ (laws : RunLaws) (flow : Flow) (defs : List Def) (v : Valuation) where
       let at1 = operand_exact c p s i.o at in
       let at' : IsExactly v c p t = subst (λ (u : State). IsExactly v c p u) (sym i.operands) (operand_exact c p one i.o' at1) in
       by place (subst (λ (l : List Next). slice_get l place ≡ Some n) i.gives e)
-      where
-        values : IsTrueIn v i.before → (value_of c.vars i.o ≡ Some (v i.a.0)) × (value_of c.vars i.o' ≡ Some (v i.b.0))
-        values h =
-            let h' : IsTrueIn v (with_operand (with_operand s i.o) i.o') = subst (λ (u : State). IsTrueIn v u) i.operands h in
-            let h1 = operand_true v (with_operand s i.o) i.o' h' in
-            (operand_value c p s i.o i.a at h1 i.left_known, operand_value c p (with_operand s i.o) i.o' i.b (operand_exact c p s i.o at) h' i.right_known)
+    where
+      values : IsTrueIn v i.before → (value_of c.vars i.o ≡ Some (v i.a.0)) × (value_of c.vars i.o' ≡ Some (v i.b.0))
+      values h =
+          let h' : IsTrueIn v (with_operand (with_operand s i.o) i.o') = subst (λ (u : State). IsTrueIn v u) i.operands h in
+          let h1 = operand_true v (with_operand s i.o) i.o' h' in
+          (operand_value c p s i.o i.a at h1 i.left_known, operand_value c p (with_operand s i.o) i.o' i.b (operand_exact c p s i.o at) h' i.right_known)
 
-        to : PointId → Atom → Next
-        to q f = moved_to q (with_atom i.before f)
+      to : PointId → Atom → Next
+      to q f = moved_to q (with_atom i.before f)
 
-        last_true : (xs : List Atom) (f : Atom) → AllByRecursion (IsTrueAtom v) (xs ++ f ∷ []) → IsTrueAtom v f
-        last_true [] f all = all.0
-        last_true (x ∷ xs) f all = last_true xs f all.1
+      last_true : (xs : List Atom) (f : Atom) → AllByRecursion (IsTrueAtom v) (xs ++ f ∷ []) → IsTrueAtom v f
+      last_true [] f all = all.0
+      last_true (x ∷ xs) f all = last_true xs f all.1
 
-        goes : (q : PointId) (f : Atom) (b : Bool) → (IsTrueAtom v f → int_eq (v i.a.0) (v i.b.0) ≡ b) → (b ≡ true → q ≡ i.t) → (b ≡ false → q ≡ i.f) → moved_to q (with_atom i.before f) ≡ n → GoesTo flow defs v c choices choices n
-        goes q f b tests on off same =
-            let code = has_code flow defs p (instr.TestEq i.o i.o' i.t i.f) c i.at at.point in
-            let at1 = operand_exact c p s i.o at in
-            let at' : IsExactly v c p i.before = subst (λ (u : State). IsExactly v c p u) (sym i.operands) (operand_exact c p (with_operand s i.o) i.o' at1) in
-            let here : IsTrueIn v (with_atom i.before f) = subst (λ (m : Next). IsTrueIn v m.state) (sym same) holds in
-            let before : IsTrueIn v i.before = less_true v i.before (with_atom i.before f) [] (f ∷ []) (sym (append_none i.before.kinds)) refl refl here in
-            let vs = values before in
-            let yes = tests (last_true i.before.atoms f here.atoms) in
-            subst (GoesTo flow defs v c choices choices) same
-            (at_point q c,
+      goes : (q : PointId) (f : Atom) (b : Bool) → (IsTrueAtom v f → int_eq (v i.a.0) (v i.b.0) ≡ b) → (b ≡ true → q ≡ i.t) → (b ≡ false → q ≡ i.f) → moved_to q (with_atom i.before f) ≡ n → GoesTo flow defs v c choices choices n
+      goes q f b tests on off same =
+          let code = has_code flow defs p (instr.TestEq i.o i.o' i.t i.f) c i.at at.point in
+          let at1 = operand_exact c p s i.o at in
+          let at' : IsExactly v c p i.before = subst (λ (u : State). IsExactly v c p u) (sym i.operands) (operand_exact c p (with_operand s i.o) i.o' at1) in
+          let here : IsTrueIn v (with_atom i.before f) = subst (λ (m : Next). IsTrueIn v m.state) (sym same) holds in
+          let before : IsTrueIn v i.before = less_true v i.before (with_atom i.before f) [] (f ∷ []) (sym (append_none i.before.kinds)) refl refl here in
+          let vs = values before in
+          let yes = tests (last_true i.before.atoms f here.atoms) in
+          subst (GoesTo flow defs v c choices choices) same (
+            at_point q c,
             code.steps choices (next (at_point q c) choices)
-            (sym (ap₂ (tested int_eq i.t i.f code.point.place c choices) vs.0 vs.1 ∙ ap (λ (b : Bool). if b then next (at_point i.t c) choices else next (at_point i.f c) choices) yes ∙ way b on off)),
-            record { point = refl; vars = at'.vars; heap = at'.heap; blocks = at'.blocks; whole = at'.whole })
-          where
-            way : (b : Bool) → (b ≡ true → q ≡ i.t) → (b ≡ false → q ≡ i.f) → ◌≡◌ {A = Result} (if b then next (at_point i.t c) choices else next (at_point i.f c) choices) (next (at_point q c) choices)
-            way true on off = ap (λ (z : PointId). next (at_point z c) choices) (sym (on refl))
-            way false on off = ap (λ (z : PointId). next (at_point z c) choices) (sym (off refl))
+                (sym (ap₂ (tested int_eq i.t i.f code.point.place c choices) vs.0 vs.1 ∙ ap (λ (b : Bool). if b then next (at_point i.t c) choices else next (at_point i.f c) choices) yes ∙ way b on off)),
+            record { point = refl; vars = at'.vars; heap = at'.heap; blocks = at'.blocks; whole = at'.whole },
+          )
+        where
+          way : (b : Bool) → (b ≡ true → q ≡ i.t) → (b ≡ false → q ≡ i.f) → ◌≡◌ {A = Result} (if b then next (at_point i.t c) choices else next (at_point i.f c) choices) (next (at_point q c) choices)
+          way true on off = ap (λ (z : PointId). next (at_point z c) choices) (sym (on refl))
+          way false on off = ap (λ (z : PointId). next (at_point z c) choices) (sym (off refl))
 
-        by : (place : ℕ) → slice_get (moved_to i.t (with_atom i.before (Eq i.a i.b (pos 0))) ∷ moved_to i.f (with_atom i.before (Ne i.a i.b (pos 0))) ∷ []) place ≡ Some n → GoesTo flow defs v c choices choices n
-        by zero h = goes i.t (Eq i.a i.b (pos 0)) true (λ x. eq_yes (v i.a.0) (v i.b.0) (plus_none (v i.a.0) (v i.b.0) x)) (λ y. refl) (λ y. absurd cc) (one_item _ n h)
-        by (suc zero) h = goes i.f (Ne i.a i.b (pos 0)) false (λ x. eq_no (v i.a.0) (v i.b.0) (λ same. x (with_none (v i.a.0) (v i.b.0) same))) (λ y. absurd cc) (λ y. refl) (one_item _ n h)
-        by (suc (suc k)) h = cc
+      by : (place : ℕ) → slice_get (moved_to i.t (with_atom i.before (Eq i.a i.b (pos 0))) ∷ moved_to i.f (with_atom i.before (Ne i.a i.b (pos 0))) ∷ []) place ≡ Some n → GoesTo flow defs v c choices choices n
+      by zero h = goes i.t (Eq i.a i.b (pos 0)) true (λ x. eq_yes (v i.a.0) (v i.b.0) (plus_none (v i.a.0) (v i.b.0) x)) (λ y. refl) (λ y. absurd cc) (one_item _ n h)
+      by (suc zero) h = goes i.f (Ne i.a i.b (pos 0)) false (λ x. eq_no (v i.a.0) (v i.b.0) (λ same. x (with_none (v i.a.0) (v i.b.0) same))) (λ y. absurd cc) (λ y. refl) (one_item _ n h)
+      by (suc (suc k)) h = cc
 
   s18_goes : (c : Config) (p : PointId) (s : State) (ns : List Next) (n : Next) (place : ℕ) (choices : List Choice) → IsExactly v c p s → S18Is flow p s ns → slice_get ns place ≡ Some n → GoesTo flow defs v c choices choices n
   s18_goes c p s ns n place choices at i e =
       let code = has_code flow defs p (instr.AssertEmpty i.q) c i.at at.point in
-      subst (GoesTo flow defs v c choices choices) (first_is n (moved_to i.q s) ns place e i.gives)
-      (at_point i.q c,
-      code.steps choices (next (at_point i.q c) choices) (inl (record { none = λ a. at.heap a ∙ ap (λ (es : Edges). stored v es a) i.none }, refl)),
-      elsewhere c p i.q s at)
+      subst (GoesTo flow defs v c choices choices) (first_is n (moved_to i.q s) ns place e i.gives) (
+        at_point i.q c,
+        code.steps choices (next (at_point i.q c) choices) (inl (record { none = λ a. at.heap a ∙ ap (λ (es : Edges). stored v es a) i.none }, refl)),
+        elsewhere c p i.q s at,
+      )
 
   -- variables are forgotten
   without_exact : (c : Config) (p q : PointId) (s : State) (xs : List VarId) → IsExactly v c p s → IsExactly v (record { point = q.0; vars = gone c.vars xs; heap = c.heap }) q (without_vars s xs)
   without_exact c p q s [] at = record { point = refl; vars = at.vars; heap = at.heap; blocks = at.blocks; whole = at.whole }
   without_exact c p q s (x ∷ xs) at = without_exact (record { point = p.0; vars = with_value c.vars x None; heap = c.heap }) p q (with_var s x None) xs
-    (record { point = refl; vars = ap (λ (l : List (Option ℤ)). slice_set l x.0 None) at.vars ∙ sym (set_by v s.env x.0 None); heap = at.heap; blocks = at.blocks; whole = at.whole })
+      (record { point = refl; vars = ap (λ (l : List (Option ℤ)). slice_set l x.0 None) at.vars ∙ sym (set_by v s.env x.0 None); heap = at.heap; blocks = at.blocks; whole = at.whole })
 
   s3_goes : (c : Config) (p : PointId) (s : State) (ns : List Next) (n : Next) (place : ℕ) (choices : List Choice) → IsExactly v c p s → S3Is flow p s ns → slice_get ns place ≡ Some n → GoesTo flow defs v c choices choices n
   s3_goes c p s ns n place choices at i e =
@@ -394,13 +405,17 @@ module _ (laws : RunLaws) (flow : Flow) (defs : List Def) (v : Valuation) where
       let result : v t.next ≡ wrapped (op (v m.a.0) (v m.b.0)) = result_is op (next_node t) m.left m.right m.results (v m.a.0) (v m.b.0) la lb news in
       let at'' : IsExactly v c p t = subst (λ (k : State). IsExactly v c p k) (sym m.operands) (operand_exact c p (with_operand s o) o' (operand_exact c p s o at)) in
       let d : Config = record { point = q.0; vars = with_value c.vars x (Some (wrapped (op (v m.a.0) (v m.b.0)))); heap = c.heap } in
-      subst (λ (k : Next). (d : Config) × (computed op x q at' c choices (value_of c.vars o) (value_of c.vars o') ≡ next d choices) × IsExactly v d k.point k.state) same
-      (d, ap₂ (computed op x q at' c choices) va vb,
-      record {
-        point = refl;
-        vars = ap₂ (λ (l : List (Option ℤ)) (z : ℤ). slice_set l x.0 (Some z)) at''.vars (sym result) ∙ sym (set_by v t.env x.0 (Some (next_node t)));
-        heap = at''.heap; blocks = at''.blocks; whole = at''.whole;
-      })
+      subst (λ (k : Next). (d : Config) × (computed op x q at' c choices (value_of c.vars o) (value_of c.vars o') ≡ next d choices) × IsExactly v d k.point k.state) same (
+        d,
+        ap₂ (computed op x q at' c choices) va vb,
+        record {
+          point = refl;
+          vars = ap₂ (λ (l : List (Option ℤ)) (z : ℤ). slice_set l x.0 (Some z)) at''.vars (sym result) ∙ sym (set_by v t.env x.0 (Some (next_node t)));
+          heap = at''.heap;
+          blocks = at''.blocks;
+          whole = at''.whole;
+        },
+      )
     where
       result_is : (op : ℤ → ℤ → ℤ) (k : NodeId) (left right : Range) (results : Option Range) (x y : ℤ) → (x ≡ left.lo) × (x ≡ left.hi) → (y ≡ right.lo) × (y ≡ right.hi)
           → AllByRecursion (IsTrueAtom v) (range_atoms op k left right results) → v k.0 ≡ wrapped (op x y)
@@ -415,38 +430,39 @@ module _ (laws : RunLaws) (flow : Flow) (defs : List Def) (v : Valuation) where
   s14_goes : (c : Config) (p : PointId) (s : State) (ns : List Next) (n : Next) (place : ℕ) (choices : List Choice) → IsExactly v c p s → (i : S14Is flow p s ns) → IsNumber (pure_of i.before) i.a → IsNumber (pure_of i.before) i.b
       → slice_get ns place ≡ Some n → IsTrueIn v n.state → GoesTo flow defs v c choices choices n
   s14_goes c p s ns n place choices at i na nb e holds = by place (subst (λ (l : List Next). slice_get l place ≡ Some n) i.gives e)
-      where
-        values : IsTrueIn v i.before → (value_of c.vars i.o ≡ Some (v i.a.0)) × (value_of c.vars i.o' ≡ Some (v i.b.0))
-        values h =
-            let h' : IsTrueIn v (with_operand (with_operand s i.o) i.o') = subst (λ (u : State). IsTrueIn v u) i.operands h in
-            let h1 = operand_true v (with_operand s i.o) i.o' h' in
-            (operand_value c p s i.o i.a at h1 i.left_known, operand_value c p (with_operand s i.o) i.o' i.b (operand_exact c p s i.o at) h' i.right_known)
+    where
+      values : IsTrueIn v i.before → (value_of c.vars i.o ≡ Some (v i.a.0)) × (value_of c.vars i.o' ≡ Some (v i.b.0))
+      values h =
+          let h' : IsTrueIn v (with_operand (with_operand s i.o) i.o') = subst (λ (u : State). IsTrueIn v u) i.operands h in
+          let h1 = operand_true v (with_operand s i.o) i.o' h' in
+          (operand_value c p s i.o i.a at h1 i.left_known, operand_value c p (with_operand s i.o) i.o' i.b (operand_exact c p s i.o at) h' i.right_known)
 
-        goes : (q : PointId) (fs : List Atom) (b : Bool)
-            → ((v i.a.0 ≡ i.left.lo) × (v i.a.0 ≡ i.left.hi) → (v i.b.0 ≡ i.right.lo) × (v i.b.0 ≡ i.right.hi) → AllByRecursion (IsTrueAtom v) fs → int_le (v i.a.0) (v i.b.0) ≡ b)
-            → (b ≡ true → q ≡ i.t) → (b ≡ false → q ≡ i.f) → moved_to q (with_atoms i.before fs) ≡ n → GoesTo flow defs v c choices choices n
-        goes q fs b tests on off same =
-            let code = has_code flow defs p (instr.TestLe i.o i.o' i.t i.f) c i.at at.point in
-            let at1 = operand_exact c p s i.o at in
-            let at' : IsExactly v c p i.before = subst (λ (u : State). IsExactly v c p u) (sym i.operands) (operand_exact c p (with_operand s i.o) i.o' at1) in
-            let here : IsTrueIn v (with_atoms i.before fs) = subst (λ (m : Next). IsTrueIn v m.state) (sym same) holds in
-            let before : IsTrueIn v i.before = less_true v i.before (with_atoms i.before fs) [] fs (sym (append_none i.before.kinds)) refl refl here in
-            let vs = values before in
-            let yes = tests (single i.before i.a i.left.lo i.left.hi before na i.left_range) (single i.before i.b i.right.lo i.right.hi before nb i.right_range) (all_right (IsTrueAtom v) i.before.atoms fs here.atoms) in
-            subst (GoesTo flow defs v c choices choices) same
-            (at_point q c,
+      goes : (q : PointId) (fs : List Atom) (b : Bool)
+          → ((v i.a.0 ≡ i.left.lo) × (v i.a.0 ≡ i.left.hi) → (v i.b.0 ≡ i.right.lo) × (v i.b.0 ≡ i.right.hi) → AllByRecursion (IsTrueAtom v) fs → int_le (v i.a.0) (v i.b.0) ≡ b)
+          → (b ≡ true → q ≡ i.t) → (b ≡ false → q ≡ i.f) → moved_to q (with_atoms i.before fs) ≡ n → GoesTo flow defs v c choices choices n
+      goes q fs b tests on off same =
+          let code = has_code flow defs p (instr.TestLe i.o i.o' i.t i.f) c i.at at.point in
+          let at1 = operand_exact c p s i.o at in
+          let at' : IsExactly v c p i.before = subst (λ (u : State). IsExactly v c p u) (sym i.operands) (operand_exact c p (with_operand s i.o) i.o' at1) in
+          let here : IsTrueIn v (with_atoms i.before fs) = subst (λ (m : Next). IsTrueIn v m.state) (sym same) holds in
+          let before : IsTrueIn v i.before = less_true v i.before (with_atoms i.before fs) [] fs (sym (append_none i.before.kinds)) refl refl here in
+          let vs = values before in
+          let yes = tests (single i.before i.a i.left.lo i.left.hi before na i.left_range) (single i.before i.b i.right.lo i.right.hi before nb i.right_range) (all_right (IsTrueAtom v) i.before.atoms fs here.atoms) in
+          subst (GoesTo flow defs v c choices choices) same (
+            at_point q c,
             code.steps choices (next (at_point q c) choices)
-            (sym (ap₂ (tested int_le i.t i.f code.point.place c choices) vs.0 vs.1 ∙ ap (λ (b : Bool). if b then next (at_point i.t c) choices else next (at_point i.f c) choices) yes ∙ way b on off)),
-            record { point = refl; vars = at'.vars; heap = at'.heap; blocks = at'.blocks; whole = at'.whole })
-          where
-            way : (b : Bool) → (b ≡ true → q ≡ i.t) → (b ≡ false → q ≡ i.f) → ◌≡◌ {A = Result} (if b then next (at_point i.t c) choices else next (at_point i.f c) choices) (next (at_point q c) choices)
-            way true on off = ap (λ (z : PointId). next (at_point z c) choices) (sym (on refl))
-            way false on off = ap (λ (z : PointId). next (at_point z c) choices) (sym (off refl))
+                (sym (ap₂ (tested int_le i.t i.f code.point.place c choices) vs.0 vs.1 ∙ ap (λ (b : Bool). if b then next (at_point i.t c) choices else next (at_point i.f c) choices) yes ∙ way b on off)),
+            record { point = refl; vars = at'.vars; heap = at'.heap; blocks = at'.blocks; whole = at'.whole },
+          )
+        where
+          way : (b : Bool) → (b ≡ true → q ≡ i.t) → (b ≡ false → q ≡ i.f) → ◌≡◌ {A = Result} (if b then next (at_point i.t c) choices else next (at_point i.f c) choices) (next (at_point q c) choices)
+          way true on off = ap (λ (z : PointId). next (at_point z c) choices) (sym (on refl))
+          way false on off = ap (λ (z : PointId). next (at_point z c) choices) (sym (off refl))
 
-        by : (place : ℕ) → slice_get (moved_to i.t (with_atoms i.before (le_atoms i.a i.b i.left i.right)) ∷ moved_to i.f (with_atoms i.before (gt_atoms i.a i.b i.left i.right)) ∷ []) place ≡ Some n → GoesTo flow defs v c choices choices n
-        by zero h = goes i.t (le_atoms i.a i.b i.left i.right) true (λ la lb all. le_is (v i.a.0) (v i.b.0) i.left.hi i.right.hi lb.1 all.0.1) (λ y. refl) (λ y. absurd cc) (one_item _ n h)
-        by (suc zero) h = goes i.f (gt_atoms i.a i.b i.left i.right) false (λ la lb all. gt_is (v i.a.0) (v i.b.0) i.left.lo i.right.lo lb.0 all.0.0) (λ y. absurd cc) (λ y. refl) (one_item _ n h)
-        by (suc (suc k)) h = cc
+      by : (place : ℕ) → slice_get (moved_to i.t (with_atoms i.before (le_atoms i.a i.b i.left i.right)) ∷ moved_to i.f (with_atoms i.before (gt_atoms i.a i.b i.left i.right)) ∷ []) place ≡ Some n → GoesTo flow defs v c choices choices n
+      by zero h = goes i.t (le_atoms i.a i.b i.left i.right) true (λ la lb all. le_is (v i.a.0) (v i.b.0) i.left.hi i.right.hi lb.1 all.0.1) (λ y. refl) (λ y. absurd cc) (one_item _ n h)
+      by (suc zero) h = goes i.f (gt_atoms i.a i.b i.left i.right) false (λ la lb all. gt_is (v i.a.0) (v i.b.0) i.left.lo i.right.lo lb.0 all.0.0) (λ y. absurd cc) (λ y. refl) (one_item _ n h)
+      by (suc (suc k)) h = cc
 
   -- ---- each rule
 

@@ -1,5 +1,5 @@
 -- What instructions do with heaps, and what these hold after a change of one address.
-use Rattle.std.proofs.Common.{◌≡◌, ◌≢◌, ◌⊎◌, ◌<◌, ◌≤◌, ◌^◌, ℕ, zero, suc, ℤ, pos, negsuc, ◌≤ℤ◌, Bool, true, false, Option, Some, None, List, [], ◌∷◌, ◌++◌, map, option_map, length, slice_get, if◌then◌else◌, refl, sym, ap, ◌∙◌, subst, arith, inl, inr, eq-eqb}
+use Rattle.std.proofs.Common.{◌≡◌, ◌≢◌, ◌⊎◌, ◌<◌, ◌≤◌, ◌^◌, ℕ, zero, suc, ℤ, pos, negsuc, ◌≤ℤ◌, Bool, true, false, Option, Some, None, List, [], ◌∷◌, ◌++◌, option_map, length, slice_get, if◌then◌else◌, refl, sym, ap, ◌∙◌, subst, arith, inl, inr, eq-eqb}
 use Rattle.std.specs.Prelude.{◌==◌, is_some}
 use Rattle.std.specs.FinMap as map
 use Rattle.std.specs.Ordering.{int_eq}
@@ -47,9 +47,9 @@ has_code flow defs p code c is at = by (slice_get flow.points p.0) refl is
       point = point;
       there = e;
       steps = λ choices r s. (
-        let here : slice_get flow.points c.point ≡ Some point = ap (λ (n : ℕ). slice_get flow.points n) at ∙ e in
-        let s' : StepOf flow.structs defs point.place point.code c choices r = subst (λ (k : Instr). StepOf flow.structs defs point.place k c choices r) (sym same) s in
-        subst (λ (o : Option Point). StepAt flow.structs defs o c choices r) (sym here) s');
+          let here : slice_get flow.points c.point ≡ Some point = ap (λ (n : ℕ). slice_get flow.points n) at ∙ e in
+          let s' : StepOf flow.structs defs point.place point.code c choices r = subst (λ (k : Instr). StepOf flow.structs defs point.place k c choices r) (sym same) s in
+          subst (λ (o : Option Point). StepAt flow.structs defs o c choices r) (sym here) s');
     }
 
 -- the run goes to a successor

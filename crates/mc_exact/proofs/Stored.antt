@@ -246,9 +246,13 @@ found_later : (v : Valuation) (k : EdgeId) (x : Edge) (es : Edges) (at : ℕ) (b
 found_later v k x es at b low le f =
     let ne : k.0 ≢ f.id.0 = λ same. (let ab = f.above in omega arith) in
     record {
-      id = f.id; node = f.node; shape = f.shape; fields = f.fields;
+      id = f.id;
+      node = f.node;
+      shape = f.shape;
+      fields = f.fields;
       there = ap (λ (c : Bool). if c then Some x else edge_with es f.id) (neq_no k.0 f.id.0 ne) ∙ f.there;
-      leads = f.leads; is = f.is;
+      leads = f.leads;
+      is = f.is;
       above = (let ab = f.above in omega arith);
     }
 
@@ -258,9 +262,14 @@ stored_found v ((k, Block m own contents) ∷ es) at b low high up e = here (int
   where
     here : (c : Bool) → int_eq (v m.0) (pos at) ≡ c → (if c then Some (held v own contents) else stored v es at) ≡ Some b → (stored v es at ≡ Some b → IsFound v es at b (suc k.0)) → IsFound v ((k, Block m own contents) ∷ es) at b low
     here true is h later = record {
-      id = k; node = m; shape = own; fields = contents;
+      id = k;
+      node = m;
+      shape = own;
+      fields = contents;
       there = ap (λ (c : Bool). if c then Some (Block m own contents) else edge_with es k) (eq-eqb k.0 k.0 refl);
-      leads = int_same (v m.0) (pos at) is; is = sym (one_item (held v own contents) b h); above = (let u = up.0 in omega arith);
+      leads = int_same (v m.0) (pos at) is;
+      is = sym (one_item (held v own contents) b h);
+      above = (let u = up.0 in omega arith);
     }
     here false is h later = found_later v k (Block m own contents) es at b low (let u = up.0 in omega arith) (later h)
 stored_found v ((k, Ind m pred args) ∷ es) at b low high up e = found_later v k (Ind m pred args) es at b low (let u = up.0 in omega arith) (stored_found v es at b (suc k.0) high up.2 e)

@@ -149,9 +149,10 @@ module _ (flow : Flow) where
       let c = moved_to i.q (with_var (with_block b.state i.shape (field_count flow.structs i.shape)) i.x (Some (next_node b.state))) in
       let steps_are : steps ≡ a ∷ c ∷ [] = i.gives in
       let next_is : next' ≡ path_of a ∷ path_of c ∷ [] = step'.1.2 ∙ ap (map path_of) steps_are in
-      subst (λ (l : List Path). AllByRecursion (IsExactTrack flow) (picked b.state picks l)) (sym next_is)
-      (path_is a (picks ++ None ∷ []) refl (failed a branch i (ap (λ (l : List Next). slice_get l 0) steps_are)),
-      (path_is c (picks ++ Some (next_node b.state) ∷ []) refl (made c branch i (ap (λ (l : List Next). slice_get l 1) steps_are)), tt))
+      subst (λ (l : List Path). AllByRecursion (IsExactTrack flow) (picked b.state picks l)) (sym next_is) (
+        path_is a (picks ++ None ∷ []) refl (failed a branch i (ap (λ (l : List Next). slice_get l 0) steps_are)),
+        (path_is c (picks ++ Some (next_node b.state) ∷ []) refl (made c branch i (ap (λ (l : List Next). slice_get l 1) steps_are)), tt),
+      )
 
   none_left : (next' : List Path) (picks : Picks) → next' ≡ [] → AllByRecursion (IsExactTrack flow) (map (λ n. (n, picks)) next')
   none_left next' picks e = subst (λ (l : List Path). AllByRecursion (IsExactTrack flow) (map (λ n. (n, picks)) l)) (sym e) tt

@@ -24,7 +24,6 @@ use Rattle.mc_flow.specs.declared.instr.Instr.{Instr}
 use Rattle.mc_flow.specs.declared.instr.Instr.TheVariants as instr
 use Rattle.mc_flow.specs.declared.instr.Operand.{Operand}
 use Rattle.mc_flow.specs.declared.instr.Operand.TheVariants.{Var, Const}
-use Rattle.mc_flow.specs.Runs.{next}
 use Rattle.mc_flow.specs.Steps.{field_count}
 use Rattle.mc_flow.specs.Values.{wrapped}
 use Rattle.mc_flow.specs.Valid.{IsOperand, IsValid, FitsKinds}
@@ -117,7 +116,8 @@ module _ (vars : List VarInfo) where
       let one = plain_operand s o le i in
       let two = plain_operand (with_operand s o) o' one.1 one.0 in
       let both : TwoKinds s (with_operand (with_operand s o) o') a b kind = record {
-        plain = two.0; next = two.1;
+        plain = two.0;
+        next = two.1;
         left = operand_has (with_operand s o) o' kind a (operand_kind s o kind a i.ascend may fo e);
         right = operand_kind (with_operand s o) o' kind b one.0.ascend (operand_may s o may) fo' h;
       } in

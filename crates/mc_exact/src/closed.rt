@@ -25,5 +25,8 @@ fn is_closed(code: &Instr) -> bool
 pub fn asks_malloc_alone(flow: &Flow) -> bool
     ensures { IsTrue result ↔ AsksMallocAlone flow.now }
 {
-    flow.points.as_slice().iter().all(|point| is_closed(&point.code))
+    flow.points
+        .as_slice()
+        .iter()
+        .all(|point| is_closed(&point.code))
 }

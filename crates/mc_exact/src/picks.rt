@@ -31,11 +31,7 @@ fn answer(state: &State, pick: Option<NodeId>) -> u64
 }
 
 /// All answers of malloc to the run that follows a branch to the state.
-pub fn answers(
-    alloc: Global,
-    state: &State,
-    picks: &[Option<NodeId>],
-) -> Result<Vec<u64>, NoMemory>
+pub fn answers(alloc: Global, state: &State, picks: &[Option<NodeId>]) -> Result<Vec<u64>, NoMemory>
     ensures { IfOk result (λ list. (know : Test) → Tells know state.now → list.items ≡ map (answered know) picks.now) }
 {
     let mut list = Vec::with_capacity(alloc, picks.len())?;
