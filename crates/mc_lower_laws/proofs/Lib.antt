@@ -1,3 +1,4 @@
+pub mod ClosedLemmas
 pub mod ExistingLemmas
 pub mod KindsLemmas
 pub mod LowerableLemmas

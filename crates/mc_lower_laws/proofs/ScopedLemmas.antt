@@ -5,3 +5,4 @@ pub mod Faultless
 pub mod Scoping
 pub mod Wholes
 pub mod Trees
+pub mod FlowFaults

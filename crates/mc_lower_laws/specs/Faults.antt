@@ -1,4 +1,4 @@
--- Faults of a program, found in its flow graph.
+-- Faults of a program and of its flow graph.
 use Rattle.std.specs.Prelude.{ℕ, List}
 use Rattle.mc_base.specs.declared.plain.FaultKind.{FaultKind}
 use Rattle.mc_base.specs.declared.text.place.Place.{Place}
@@ -17,3 +17,10 @@ FaultsAreIn graph defs program entry =
     (n : ℕ) (choices : List Choice) (kind : FaultKind) (place : Place)
     → Reaches (Step program) n (start program entry) choices (fault kind place)
     → (m : ℕ) × Reaches (flow.Step graph defs) m (flow.start graph) choices (fault kind place)
+
+-- every fault of the flow graph is one of the program, to which the run with the same choices comes
+abbrev pub FlowFaultsAreIn : Flow → List Def → Program → FunctionTree → Type 0
+FlowFaultsAreIn graph defs program entry =
+    (n : ℕ) (choices : List Choice) (kind : FaultKind) (place : Place)
+    → Reaches (flow.Step graph defs) n (flow.start graph) choices (fault kind place)
+    → (m : ℕ) × Reaches (Step program) m (start program entry) choices (fault kind place)

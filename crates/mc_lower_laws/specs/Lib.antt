@@ -1,3 +1,4 @@
+pub mod Closed
 pub mod Existing
 pub mod Faults
 pub mod Kinds

@@ -8,8 +8,10 @@
 //! - `scoped`: what is written in a resolved program is in scope, so its flow graph runs as the program does.
 //! - `kinds`: the values of resolved programs are of the kinds that are wanted, where the programs are well typed.
 //! - `lowerable`: resolved programs of typed trees can be lowered.
+//! - `closed`: flow graphs of programs without loops, inputs and shape commands ask for answers of malloc alone.
 #![tactic(auto)]
 
+pub mod closed;
 pub mod existing;
 pub mod kinds;
 pub mod lowerable;

@@ -3,5 +3,6 @@
 mod laws;
 
 pub use laws::{
-    faults_are_in_flow_graphs, resolved_programs_are_scoped, safe_flow_graphs_mean_safe_trees,
+    faults_are_in_flow_graphs, flow_faults_are_in_programs, resolved_programs_are_scoped,
+    safe_flow_graphs_mean_safe_trees,
 };

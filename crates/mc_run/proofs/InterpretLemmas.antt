@@ -1,3 +1,4 @@
 pub mod Asking
 pub mod Entries
 pub mod Runs
+pub mod Faults

@@ -1,0 +1,5 @@
+pub mod Least
+pub mod Exact
+pub mod Real
+pub mod Tracks
+pub mod Examples

@@ -1,0 +1,16 @@
+//! Exact branches: those that come from the entry by instructions and answers of `malloc` alone, each of which one run
+//! follows; what an instruction lacks at its end, no shape, is a fault of that run. Laws, and the code that finds the
+//! run's answers of `malloc`.
+//!
+//! Stands on the rules, `mc_symbolic` and `mc_kernel`; called by no crate of the program yet (`mc_follow` is to).
+#![tactic(auto)]
+
+mod closed;
+mod examples;
+mod laws;
+mod picks;
+
+pub use closed::asks_malloc_alone;
+pub use examples::freed_is_read;
+pub use laws::{alarms_are_real, least_valuations_are_true, tracks_stay_exact};
+pub use picks::{answers, least};
