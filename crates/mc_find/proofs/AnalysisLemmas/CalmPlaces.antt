@@ -1,5 +1,5 @@
 -- The lines of a chain without stuck branches are in their places in the certificate too.
-use Rattle.std.proofs.Common.{◌≡◌, ◌++◌, ◌∷◌, ◌∙◌, ◌+◌, ◌≤◌, ℕ, cond, List, [], Bool, true, false, map, refl, sym, ap, subst, arith}
+use Rattle.std.proofs.Common.{◌≡◌, ◌++◌, ◌∷◌, ◌∙◌, ◌+◌, ◌≤◌, ℕ, List, [], Bool, true, map, refl, sym, ap, subst, arith}
 use Rattle.std.specs.Prelude.{Ok, Some, None, if◌then◌else◌}
 use Rattle.std.proofs.lemmas.List.{map-append}
 use Rattle.std.specs.List.{AllByRecursion, filter, list_all}

@@ -1,5 +1,5 @@
 -- Lines that go on, and where they may stand.
-use Rattle.std.proofs.Common.{◌≡◌, ◌≤◌, ◌++◌, ◌∷◌, ◌∙◌, List, Bool, true, false, Option, [], refl, ap, sym, subst, arith}
+use Rattle.std.proofs.Common.{◌≡◌, ◌≤◌, ◌++◌, ◌∷◌, ◌∙◌, List, Bool, true, false, Option, [], refl, ap, arith}
 use Rattle.std.specs.Prelude.{◌||◌, is_some, not}
 use Rattle.mc_base.specs.declared.ids.PointId.{PointId}
 use Rattle.mc_state.specs.declared.goal.Goal.{Goal}

@@ -1,4 +1,4 @@
-use Rattle.std.proofs.Common.{◌++◌, ◌∙◌, ap, refl}
+use Rattle.std.proofs.Common.{◌++◌, ◌∙◌, ap}
 use Rattle.mc_state_io.specs.Text.Text.{Text}
 use Rattle.mc_follow.specs.Report.Report.{count_line}
 use Rattle.mc_follow.proofs.ReportLemmas.Chains.{ended_report, unended_is_none}

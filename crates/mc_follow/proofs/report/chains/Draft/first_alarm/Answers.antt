@@ -1,9 +1,7 @@
-use Rattle.std.proofs.Common.{◌≡◌, ◌++◌, ◌∷◌, ◌∙◌, List, [], Bool, true, false, Some, Option, option_map, ap, sym, subst}
+use Rattle.std.proofs.Common.{◌≡◌, ◌∷◌, ◌∙◌, [], sym, subst}
 use Rattle.mc_check_line.specs.Judging.{path}
 use Rattle.mc_kernel.specs.Branches.{Path}
-use Rattle.mc_kernel.specs.Readings.{first_branch}
 use Rattle.mc_rules_steps.specs.Unmet.{IsUnmet}
-use Rattle.mc_state_io.specs.Text.Text.{Text}
 use Rattle.mc_follow.specs.Report.Report.{IsAlarmLine}
 use Rattle.mc_follow.proofs.AlarmsLemmas.Followed.{current_is, none_open}
 use Rattle.mc_follow.proofs.ReportLemmas.Chains.{alarm_told}

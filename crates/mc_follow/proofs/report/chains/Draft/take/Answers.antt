@@ -1,4 +1,4 @@
-use Rattle.std.proofs.Common.{◌≡◌, ◌++◌, ◌∙◌, List, ap, sym, subst}
+use Rattle.std.proofs.Common.{◌++◌, ◌∙◌, ap, sym, subst}
 use Rattle.std.specs.Prelude.{Err}
 use Rattle.mc_document.specs.declared.proof.fault.ApplyFault.{ApplyFault}
 use Rattle.mc_document.specs.Proof.Positions.{Applies}
