@@ -5,11 +5,16 @@
 #![tactic(auto)]
 
 mod accepted;
+mod alarming;
 pub mod analysis;
 mod cuts;
 mod finding;
 pub mod matching;
+mod prepared;
+mod rank;
+mod stub;
 pub mod walks;
 
 pub use crate::walks::Limits;
+pub use alarming::find_alarms;
 pub use finding::find;

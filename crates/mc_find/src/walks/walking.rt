@@ -1,14 +1,18 @@
 // Walks from one root.
-use crate::walks::Attempt;
+use crate::walks::walked::{Walked, blocked_at};
+use crate::walks::{Aim, Attempt};
 use mc_base::{NoMemory, PointId};
 use mc_find_paths::next::false_or_null;
 use mc_lines::cert::Line;
+use mc_rules_steps::Gap;
 
 /// How a walk goes on.
 #[derive(Clone, Copy, Debug, PartialEq, Eq)]
 pub enum Way {
     /// It goes on.
     On,
+    /// A head has lost something: the root is followed again.
+    Again,
     /// An instruction lacks something, or a line could not be found.
     Stuck,
     /// A cut would have too many heads.
@@ -19,15 +23,17 @@ pub enum Way {
 
 /// What the first branch asks for.
 #[derive(Drop)]
-enum Act {
+pub enum Act {
     /// This line.
     Apply(Line),
     /// That a side branch is ended.
     EndSide,
     /// That it is ended at this cut.
     Arrive(PointId),
-    /// Its instruction lacks something.
-    Lack,
+    /// Its instruction at this point lacks something.
+    Block(PointId, Gap),
+    /// No line of its instruction can be applied.
+    Fail,
     /// There is no branch.
     Rest,
 }
@@ -47,10 +53,7 @@ impl Attempt<'_> {
         if branch.moved && self.task.cuts.contains(&branch.point) {
             return Ok(Act::Arrive(branch.point));
         }
-        match self.next_by_code(branch)? {
-            Some(line) => Ok(Act::Apply(line)),
-            None => Ok(Act::Lack),
-        }
+        self.next_by_code(branch)
     }
 
     /// Applies a line at the first branch.
@@ -62,13 +65,27 @@ impl Attempt<'_> {
         Ok(Way::On)
     }
 
+    /// Ends the first branch as blocked at a point by a gap, unless a certificate is made.
+    fn block(&mut self, walked: &mut Walked, point: PointId, gap: Gap) -> Result<Way, NoMemory> {
+        if self.aim == Aim::Certificate {
+            return Ok(Way::Stuck);
+        }
+        let Some(blocked) = blocked_at(self.task.sight.flow, point, gap) else {
+            return Ok(Way::Stuck);
+        };
+        let _ended = self.paths.pop();
+        walked.block(blocked)?;
+        Ok(Way::On)
+    }
+
     /// Goes one step along the first branch.
-    fn step(&mut self, lines: &mut Vec<Line>, act: Act) -> Result<Way, NoMemory> {
+    fn step(&mut self, walked: &mut Walked, act: Act) -> Result<Way, NoMemory> {
         match act {
-            Act::Apply(line) => self.apply(lines, line),
-            Act::EndSide => self.end_side(lines),
-            Act::Arrive(cut) => self.arrive(cut, lines),
-            Act::Lack => Ok(Way::Stuck),
+            Act::Apply(line) => self.apply(&mut walked.lines, line),
+            Act::EndSide => self.end_side(&mut walked.lines),
+            Act::Arrive(cut) => self.arrive(cut, walked),
+            Act::Block(point, gap) => self.block(walked, point, gap),
+            Act::Fail => Ok(Way::Stuck),
             Act::Rest => Ok(Way::On),
         }
     }
@@ -78,8 +95,8 @@ impl Attempt<'_> {
         self.left = self.left.saturating_sub((lines as u64).max(1));
     }
 
-    /// Follows all open branches. The lines are added.
-    pub fn walk(&mut self, lines: &mut Vec<Line>) -> Result<Way, NoMemory> {
+    /// Follows all open branches, and adds what comes of them.
+    pub fn walk(&mut self, walked: &mut Walked) -> Result<Way, NoMemory> {
         for _ in 0..self.limits.lines {
             if self.left == 0 {
                 return Ok(Way::TooLong);
@@ -88,12 +105,12 @@ impl Attempt<'_> {
             if let Act::Rest = &act {
                 return Ok(Way::On);
             }
-            let before = lines.len();
-            let way = self.step(lines, act)?;
+            let before = walked.lines.len();
+            let way = self.step(walked, act)?;
             if way != Way::On {
                 return Ok(way);
             }
-            self.count(lines.len().saturating_sub(before));
+            self.count(walked.lines.len().saturating_sub(before));
         }
         Ok(Way::TooLong)
     }
