@@ -11,7 +11,6 @@ use mc_document::proof::Stack;
 use mc_flow::{Defs, Flow, Instr};
 use mc_gaps::lacking::lacking_at;
 use mc_lines::cert::Line;
-use mc_rules_steps::Gap;
 use mc_state::{Form, RawState};
 use mc_symbolic::State;
 use std::alloc::Global;
@@ -172,17 +171,20 @@ impl<'f> Paths<'f> {
         }
     }
 
-    /// What the instruction of the first branch lacks there, if it lacks something.
-    pub fn gap(&self) -> Result<Option<Gap>, NoMemory> {
+    /// Whether the instruction of the first branch lacks something there.
+    pub fn lacks(&self) -> Result<bool, NoMemory> {
         match self.open.top() {
-            Some(branch) => lacking_at(
-                self.alloc,
-                self.flow,
-                self.defs,
-                branch.point,
-                &branch.state,
-            ),
-            None => Ok(None),
+            Some(branch) => {
+                let gap = lacking_at(
+                    self.alloc,
+                    self.flow,
+                    self.defs,
+                    branch.point,
+                    &branch.state,
+                )?;
+                Ok(gap.is_some())
+            }
+            None => Ok(true),
         }
     }
 
