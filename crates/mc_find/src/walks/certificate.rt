@@ -91,7 +91,8 @@ impl Attempt<'_> {
         }
         let bodies = push_heads(alloc, &mut all, self.heads, self.task.cuts)?;
         push_pass(&mut all, form)?;
-        push_lines(&mut all, self.entry.lines, numbers.as_slice())?;
+        let entry = self.entry;
+        push_lines(&mut all, entry.lines, numbers.as_slice())?;
         for lines in bodies {
             push_lines(&mut all, lines, numbers.as_slice())?;
         }
