@@ -163,6 +163,14 @@ fn try_one(
     }
 }
 
+/// Whether nothing better is looked for: no fault is met before anything is folded, or they are told as they are met.
+fn is_settled(best: &Option<Offer>, faults: &[Blocked]) -> bool {
+    match best {
+        Some(found) => found.rank.is_best() || faults.is_empty(),
+        None => false,
+    }
+}
+
 /// What was found best.
 fn best_of(best: Option<Offer>) -> Option<Proposed> {
     match best {
@@ -183,14 +191,9 @@ fn try_all(
     let mut left = limits.lines.saturating_mul(WHOLE);
     let mut best: Option<Offer> = None;
     for style in &styles() {
-        if left == 0 {
-            break;
-        }
-        if let Some(found) = try_one(alloc, task, *style, limits, faults, &best, &mut left)? {
-            let is_last = found.rank.is_best() || faults.is_empty();
-            best = Some(found);
-            if is_last {
-                break;
+        if left > 0 && !is_settled(&best, faults) {
+            if let Some(found) = try_one(alloc, task, *style, limits, faults, &best, &mut left)? {
+                best = Some(found);
             }
         }
     }
