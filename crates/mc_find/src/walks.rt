@@ -17,6 +17,7 @@ mod reach;
 mod reached;
 mod sides;
 mod style;
+mod tally;
 mod walked;
 mod walking;
 
