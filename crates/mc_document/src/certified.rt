@@ -52,7 +52,7 @@ fn may_stand_aside(line: &Line) -> bool
 }
 
 /// Whether a line may stand at the first open branch.
-fn may_stand(proof: &Proof<'_>, line: &Line) -> bool
+pub fn may_stand(proof: &Proof<'_>, line: &Line) -> bool
     ensures { result ≡ may_stand line.now proof.now.branches }
 {
     match proof.current() {

@@ -1,15 +1,26 @@
 -- Lines whose cuts are at some points.
-use Rattle.std.proofs.Common.{◌≡◌, ◌<◌, ◌≤◌, ◌+◌, ◌∙◌, ℕ, Bool, true, false, List, [], ◌∷◌, ◌++◌, length, drop, get_or, refl, sym, ap}
+use Rattle.std.proofs.Common.{arith, subst, ◌≡◌, ◌<◌, ◌≤◌, ◌+◌, ◌∙◌, ℕ, Bool, true, false, List, [], ◌∷◌, ◌++◌, length, drop, get_or, refl, sym, ap}
 use Rattle.std.specs.Prelude.{◌↔◌}
 use Rattle.mc_base.specs.declared.ids.PointId.{PointId}
 use Rattle.mc_lines.specs.declared.cert.line.Line.{Line}
-use Rattle.mc_lines.specs.declared.cert.line.Line.TheVariants.{Cut}
+use Rattle.mc_lines.specs.declared.cert.line.Line.TheVariants.{Cut, Header}
 use Rattle.mc_flow.specs.declared.defs.rules.Def.{Def}
 use Rattle.mc_flow.specs.declared.graph.Flow.{Flow}
+use Rattle.mc_flow.specs.Valid.{IsValid}
+use Rattle.mc_state.specs.declared.line.Form.TheVariants.{Chain}
+use Rattle.mc_state.specs.declared.line.Version.TheVariants.{One}
+use Rattle.mc_kernel.specs.Branches.{Path}
+use Rattle.mc_kernel.specs.Oracle.Judges.{JudgesAreThere}
+use Rattle.mc_kernel.specs.Readings.{Reading}
+use Rattle.mc_kernel.specs.Reading.Documents.{IsShortChain}
+use Rattle.mc_kernel.specs.Reading.Laws.{ChainsAreRead}
+use Rattle.mc_kernel.proofs.ReadingLemmas.Rules.{same_reading}
 use Rattle.mc_document.specs.Places.{IsCertificateInPlace, cut_of, cuts_of}
 use Rattle.mc_document.proofs.CertifiedLemmas.Reading.{none_behind, rest_at}
+use Rattle.mc_follow.specs.declared.report.chains.ChainReport.{ChainReport}
 use Rattle.mc_follow.specs.Alarms.Walks.{ended_by}
-use Rattle.mc_find.specs.Analysis.Findings.{IsFound}
+use Rattle.mc_follow.specs.Report.Chains.{IsNoChain, IsReportOf}
+use Rattle.mc_find.specs.Analysis.Findings.{IsFound, IsFoundChain, IsReported}
 
 -- a line that is no cut has no point
 pub no_cut : (l : Line) → ((p : PointId) → l ≡ Cut p → ⊥) → cut_of l ≡ []
@@ -52,3 +63,44 @@ all_checked flow defs lines is few cuts told = (
   λ yes. (let given = told.0 yes in record { valid = given.0; within = few; places = record { cuts = cuts; sides = given.1 } }),
   λ found. told.1 (found.valid, found.places.sides),
 )
+
+-- ---- chains
+
+-- the stuck branches of a chain are known from its lines
+pub one_stuck : JudgesAreThere → ChainsAreRead → (flow : Flow) (defs : List Def) (lines : List Line) (some other : List Path) → IsValid flow defs
+    → IsShortChain flow defs lines some → IsShortChain flow defs lines other → some ≡ other
+one_stuck there chains flow defs lines some other valid c d = of_own _ c.spelled
+  where
+    of_own : (own : List Line) → lines ≡ Header One Chain ∷ own → some ≡ other
+    of_own own e =
+        let j = there flow defs valid in
+        let first = (chains j.0 j.1 flow defs own some valid j.2).1 (subst (λ (ls : List Line). IsShortChain flow defs ls some) e c) in
+        let second = (chains j.0 j.1 flow defs own other valid j.2).1 (subst (λ (ls : List Line). IsShortChain flow defs ls other) e d) in
+        let same : first.last ≡ second.last = same_reading first.last second.last (sym first.read ∙ second.read) in
+        sym first.stuck_are ∙ ap (λ (r : Reading). r.stuck) same ∙ second.stuck_are
+
+-- a chain that is found has its report
+pub chain_reported : (flow : Flow) (defs : List Def) (lines : List Line) (r : ChainReport) → ended_by lines ≤ 65536 → cuts_of lines ≡ flow.heads
+    → (r.count ≡ 0 → ⊥) → IsReportOf flow defs lines r → IsReported flow defs lines r
+chain_reported flow defs lines r few cuts some is = record {
+  stuck = is.stuck;
+  chain = is.chain;
+  within = few;
+  places = record { cuts = cuts; sides = is.sides };
+  report = is.text;
+  counted = is.counted;
+  some = omega (arith, some);
+}
+
+-- lines that are no chain are not found
+pub no_chain_found : (flow : Flow) (defs : List Def) (lines : List Line) → IsNoChain flow defs lines → IsFoundChain flow defs lines → ⊥
+no_chain_found flow defs lines none found = none found.stuck (found.chain, found.places.sides)
+
+-- nor is a chain without stuck branches
+pub no_stuck_found : JudgesAreThere → ChainsAreRead → (flow : Flow) (defs : List Def) (lines : List Line) (r : ChainReport) → IsValid flow defs → r.count ≡ 0
+    → IsReportOf flow defs lines r → IsFoundChain flow defs lines → ⊥
+no_stuck_found there chains flow defs lines r valid none is found =
+    let same : is.stuck ≡ found.stuck = one_stuck there chains flow defs lines is.stuck found.stuck valid is.chain found.chain in
+    let own : r.count ≡ length found.stuck = is.counted ∙ ap (λ (bs : List Path). length bs) same in
+    let some : 0 < length found.stuck = found.some in
+    omega (arith, own, none, some)

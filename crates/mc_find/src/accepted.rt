@@ -1,14 +1,17 @@
 // Which lines are accepted of an attempt.
-ghost use Rattle.std.specs.Prelude.{◌≡◌, ◌↔◌, ◌++◌, [], List, true, IfOk, MatchOption};
+ghost use Rattle.std.specs.Prelude.{◌≡◌, ◌↔◌, ◌++◌, [], List, None, true, IfOk, IfSome, MatchOption};
 ghost use Rattle.mc_base.specs.declared.ids.PointId.{PointId as Point};
 ghost use Rattle.mc_document.specs.Places.{cut_of, cuts_of};
-ghost use Rattle.mc_find.specs.Analysis.Findings.{IsFound};
+ghost use Rattle.mc_find.specs.Analysis.Findings.{IsFound, IsFoundChain, IsReported};
 ghost use Rattle.mc_flow.specs.Valid.{IsValid};
 
 use mc_base::{NoMemory, PointId};
 use mc_document::certified::is_certificate;
 use mc_flow::{Defs, Flow};
 use mc_follow::alarms::ends_few;
+use mc_follow::report::{ChainReport, chain_report};
+use mc_kernel::oracle::judges_are_there;
+use mc_kernel::reading::documents_are_read;
 use mc_lines::cert::Line;
 use std::alloc::Global;
 
@@ -63,4 +66,34 @@ pub fn is_found(alloc: Global, flow: &Flow, defs: &Defs, lines: &[Line]) -> Resu
         return Ok(false);
     }
     is_certificate(alloc, flow, defs, lines)
+}
+
+/// The report of lines that are a chain as it may be found: of one pass, with a stuck branch, that ends no more than 65,536
+/// branches, whose cuts are the loop heads, and on whose side branches no line stands but those that may. None for other lines.
+pub fn reported(
+    alloc: Global,
+    flow: &Flow,
+    defs: &Defs,
+    lines: &[Line],
+) -> Result<Option<ChainReport>, NoMemory>
+    requires { IsValid flow.now defs.now }
+    ensures some { IfOk result (λ found. IfSome found (IsReported flow.now defs.now lines.now)) }
+    ensures none { IfOk result (λ found. found ≡ None → IsFoundChain flow.now defs.now lines.now → ⊥) }
+{
+    // For the proof alone: a chain has its stuck branches and no others.
+    judges_are_there();
+    documents_are_read();
+    if !ends_few(lines) {
+        return Ok(None);
+    }
+    if !has_cuts(lines, flow.heads.as_slice()) {
+        return Ok(None);
+    }
+    let Some(report) = chain_report(alloc, flow, defs, lines)? else {
+        return Ok(None);
+    };
+    if report.count == 0 {
+        return Ok(None);
+    }
+    Ok(Some(report))
 }

@@ -1,10 +1,14 @@
 // The search for alarms of a program with loops.
+ghost use Rattle.std.specs.Prelude.{IfOk, IfSome, List};
+ghost use Rattle.mc_flow.specs.declared.defs.rules.Def.{Def};
+ghost use Rattle.mc_flow.specs.declared.graph.Flow.{Flow as Graph};
 ghost use Rattle.mc_flow.specs.Valid.{IsValid};
+ghost use Rattle.mc_find.specs.Analysis.Findings.{IsProposed};
 
-use crate::accepted::is_found;
+use crate::accepted::{is_found, reported};
+use crate::analysis::Proposed;
 use crate::prepared::Prepared;
 use crate::rank::Rank;
-use crate::stub::{Proposed, reported};
 use crate::walks::{Aim, Attempt, Blocked, Limits, Rung, Step, Style, Task, first_rung};
 use mc_base::NoMemory;
 use mc_flow::{Defs, Flow};
@@ -93,6 +97,7 @@ fn certificate(
     attempt: Attempt<'_>,
 ) -> Result<Option<Proposed>, NoMemory>
     requires { IsValid task.sight.flow.now task.sight.defs.now }
+    ensures { IfOk result (λ found. IfSome found (λ proposed. IsProposed task.entry.sight.flow.now task.entry.sight.defs.now proposed)) }
 {
     let lines = attempt.document(Form::Certificate)?;
     if is_found(alloc, task.sight.flow, task.sight.defs, lines.as_slice())? {
@@ -105,6 +110,7 @@ fn certificate(
 /// The lines of an attempt as a chain, where they are one that is accepted.
 fn chain(alloc: Global, task: Task<'_>, attempt: Attempt<'_>) -> Result<Option<Proposed>, NoMemory>
     requires { IsValid task.sight.flow.now task.sight.defs.now }
+    ensures { IfOk result (λ found. IfSome found (λ proposed. IsProposed task.entry.sight.flow.now task.entry.sight.defs.now proposed)) }
 {
     let lines = attempt.document(Form::Chain)?;
     match reported(alloc, task.sight.flow, task.sight.defs, lines.as_slice())? {
@@ -121,6 +127,7 @@ fn offered(
     rank: Rank,
 ) -> Result<Option<Proposed>, NoMemory>
     requires { IsValid task.sight.flow.now task.sight.defs.now }
+    ensures { IfOk result (λ found. IfSome found (λ proposed. IsProposed task.entry.sight.flow.now task.entry.sight.defs.now proposed)) }
 {
     if rank.alarms == 0 {
         certificate(alloc, task, attempt)
@@ -141,6 +148,7 @@ fn try_one(
     left: &mut u64,
 ) -> Result<Option<Offer>, NoMemory>
     requires { IsValid task.sight.flow.now task.sight.defs.now }
+    ensures { IfOk result (λ found. IfSome found (λ offer. IsProposed task.entry.sight.flow.now task.entry.sight.defs.now offer.proposed)) }
 {
     let own = Limits {
         lines: limits.lines.min(*left),
@@ -172,7 +180,10 @@ fn is_settled(best: &Option<Offer>, faults: &[Blocked]) -> bool {
 }
 
 /// What was found best.
-fn best_of(best: Option<Offer>) -> Option<Proposed> {
+fn best_of(best: Option<Offer>) -> Option<Proposed>
+    ensures { (flow : Graph) (defs : List Def) → IfSome best (λ offer. IsProposed flow defs offer.proposed)
+        → IfSome result (λ proposed. IsProposed flow defs proposed) }
+{
     match best {
         Some(found) => Some(found.proposed),
         None => None,
@@ -187,6 +198,7 @@ fn try_all(
     faults: &[Blocked],
 ) -> Result<Option<Proposed>, NoMemory>
     requires { IsValid task.sight.flow.now task.sight.defs.now }
+    ensures { IfOk result (λ found. IfSome found (λ proposed. IsProposed task.entry.sight.flow.now task.entry.sight.defs.now proposed)) }
 {
     let mut left = limits.lines.saturating_mul(WHOLE);
     let mut best: Option<Offer> = None;
@@ -210,6 +222,7 @@ pub fn find_alarms(
     limits: Limits,
 ) -> Result<Option<Proposed>, NoMemory>
     requires { IsValid flow.now defs.now }
+    ensures { IfOk result (λ found. IfSome found (λ proposed. IsProposed flow.now defs.now proposed)) }
 {
     let prepared = Prepared::of(alloc, flow, defs)?;
     let task = prepared.task(flow, defs);

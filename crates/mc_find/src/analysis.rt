@@ -2,6 +2,8 @@
 
 mod analysis;
 mod finding;
+mod proposed;
 
 pub use analysis::{Analysis, Findings};
 pub use finding::analyse;
+pub use proposed::Proposed;

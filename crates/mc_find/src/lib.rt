@@ -12,7 +12,6 @@ mod finding;
 pub mod matching;
 mod prepared;
 mod rank;
-mod stub;
 pub mod walks;
 
 pub use crate::walks::Limits;

@@ -10,6 +10,7 @@ mod sides;
 mod walk;
 mod whole;
 
+pub(crate) use laws::documents_are_followed;
 pub use lines::ends_few;
 pub use outcome::{Document, Outcome};
 pub use whole::alarms;

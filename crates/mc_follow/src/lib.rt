@@ -4,7 +4,8 @@
 //! Stands on `mc_find_paths`; called by `mc_find`.
 //!
 //! - `ending`: side branches can be ended: where a predicate has a cover, lines make an Ind of it.
-//! - `report`: the report of an analysis: the lines of stuck branches and of the states of cuts, and whole reports.
+//! - `report`: the report of an analysis: the lines of stuck branches and of the states of cuts, and whole reports, of
+//!   certificates and of chains.
 //! - `alarms`: the alarms of a program without loops: the chain of one pass in which every branch is followed, each
 //!   instruction that lacks something is stuck, and the report of it.
 #![tactic(auto)]

@@ -19,9 +19,10 @@ use Rattle.mc_rules_steps.specs.Steps.{moved_to}
 use Rattle.mc_kernel.specs.Branches.{Head, path_of, roots, AreCuts}
 use Rattle.mc_kernel.specs.Certificates.{IsLastPass}
 use Rattle.mc_kernel.specs.Examples as ex
-use Rattle.mc_kernel.specs.Examples.{failing_code, failing_flow, failing_state, failing_pass, failing_path}
+use Rattle.mc_kernel.specs.Examples.{failing_code, failing_flow, failing_state, failing_pass, failing_chain, failing_path}
 use Rattle.mc_kernel.specs.Instances.{Reads}
 use Rattle.mc_kernel.specs.Jumps.{Jumps}
+use Rattle.mc_kernel.specs.Reading.Documents.{IsShortChain}
 use Rattle.mc_kernel.proofs.ExampleFlows.{FitFrom, is_valid, to_one, to_none}
 use Rattle.mc_kernel.proofs.Lists.{contains_here}
 use Rattle.mc_kernel.proofs.Plain.{not_false, contains_one}
@@ -129,3 +130,14 @@ module _ (law : TrueIsNotFalse) where
 
   pub failing_is_stuck : IsLastPass failing_flow defs (ex.at 1 ∷ []) failing_heads failing_pass (failing_path ∷ [])
   failing_is_stuck = record { cuts_are = failing_cuts; at_cuts = (contains_here (ex.at 1) [], tt); bounded = (head_bounded, tt); reads = reads }
+
+  pub failing_is_chain : IsShortChain failing_flow defs failing_chain (failing_path ∷ [])
+  failing_is_chain = record {
+    cuts = ex.at 1 ∷ [];
+    heads = (ex.at 1, failing_state) ∷ [];
+    rules = failing_pass;
+    spelled = refl;
+    ordered = tt;
+    heads_are = ((contains_here (ex.at 1) [], failing_head), tt);
+    pass = failing_is_stuck;
+  }

@@ -86,7 +86,7 @@ pub last_pass_finds_faults : CalculusLaws → LastPassFindsFaults
 last_pass_finds_faults laws flow defs cuts heads rules stuck valid pass n choices kind place r =
     start_safe flow defs _ stuck laws valid rules pass.bounded pass.reads n n choices kind place (omega arith) r
 
-heads_bounded : (flow : Flow) (defs : List Def) (cuts : List PointId) (heads : List WrittenHead) → AreHeads flow defs cuts heads → AllByRecursion (λ (h : Head). IsBounded h.1) (states_of heads)
+pub heads_bounded : (flow : Flow) (defs : List Def) (cuts : List PointId) (heads : List WrittenHead) → AreHeads flow defs cuts heads → AllByRecursion (λ (h : Head). IsBounded h.1) (states_of heads)
 heads_bounded flow defs cuts [] are = tt
 heads_bounded flow defs cuts (h ∷ heads) are = (are.0.1.made.bounded, heads_bounded flow defs cuts heads are.1)
 

@@ -14,10 +14,10 @@ use Rattle.mc_flow.specs.declared.instr.Instr.{Instr}
 use Rattle.mc_flow.specs.declared.instr.Instr.TheVariants as instr
 use Rattle.mc_flow.specs.declared.instr.Operand.TheVariants.{Var, Const}
 use Rattle.mc_pure.specs.Examples.{node}
-use Rattle.mc_state.specs.declared.line.Form.TheVariants.{Certificate}
+use Rattle.mc_state.specs.declared.line.Form.TheVariants.{Certificate, Chain}
 use Rattle.mc_lines.specs.declared.cert.line.Line.{Line}
 use Rattle.mc_state.specs.declared.line.InstrRule.TheVariants.{S1, S2, S3, S4, S13, S15, S16, S17}
-use Rattle.mc_lines.specs.declared.cert.line.Line.TheVariants.{Header, Cut, Head, End, Step, L13, L14, C1}
+use Rattle.mc_lines.specs.declared.cert.line.Line.TheVariants.{Header, Cut, Head, Pass, End, Step, L13, L14, C1}
 use Rattle.mc_state.specs.declared.line.Version.TheVariants.{One}
 use Rattle.mc_state.specs.declared.raw_state.NodeKind.TheVariants.{Zero}
 use Rattle.mc_state.specs.declared.raw_state.RawState.{RawState}
@@ -136,6 +136,10 @@ failing_state = record { vars = []; kinds = Zero ∷ []; edges = []; atoms = [];
 -- a pass of a chain, which is stuck where the program fails
 abbrev pub failing_pass : List Line
 failing_pass = Step S1 ∷ L13 0 (null ∷ []) [] ∷ Step S1 ∷ C1 ∷ []
+
+-- the chain of that pass, with the head
+abbrev pub failing_chain : List Line
+failing_chain = Header One Chain ∷ Cut (at 1) ∷ Head (at 1) failing_state ∷ Pass ∷ (failing_pass ++ End ∷ [])
 
 -- where it is stuck: at the fault, with the state of the head
 abbrev pub failing_path : Path

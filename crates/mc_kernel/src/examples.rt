@@ -11,7 +11,8 @@ ghost use Rattle.mc_state.specs.Examples.{two_names};
 ghost use Rattle.mc_state.specs.RawStates.{state_of};
 ghost use Rattle.mc_kernel.specs.Certificates.{IsValidCertificate, IsLastPass};
 ghost use Rattle.mc_kernel.specs.Jumps.{Jumps};
-ghost use Rattle.mc_kernel.specs.Examples.{at, edge, loop_flow, loop_document, list_flow, list_document, failing_flow, failing_state, failing_pass, failing_path, one_name_head};
+ghost use Rattle.mc_kernel.specs.Reading.Documents.{IsShortChain};
+ghost use Rattle.mc_kernel.specs.Examples.{at, edge, loop_flow, loop_document, list_flow, list_document, failing_flow, failing_state, failing_pass, failing_chain, failing_path, one_name_head};
 
 /// A loop over inputs, with its certificate.
 pub fn loop_is_certified()
@@ -31,10 +32,11 @@ pub fn list_is_certified()
     mc_pure::derived_is_true();
 }
 
-/// A program that fails, and the last pass of a chain, which is stuck at the fault.
+/// A program that fails, and the last pass of a chain, which is stuck at the fault; and the chain, with its head.
 pub fn failing_is_stuck()
     ensures valid { IsValid failing_flow defs }
     ensures pass { IsLastPass failing_flow defs (at 1 ∷ []) ((at 1, state_of failing_state) ∷ []) failing_pass (failing_path ∷ []) }
+    ensures chain { IsShortChain failing_flow defs failing_chain (failing_path ∷ []) }
     ensures faults { Reaches (Step failing_flow defs) 3 (start failing_flow) [] (fault Assertion (record { line = 1; column = 1 })) }
 {
     mc_flow::defs::examples_fit();

@@ -13,5 +13,5 @@ pub use heads::{
     malformed_segments, malformed_variables,
 };
 pub use jumps::{example_of_jump, jumps_of_images, jumps_of_parts, jumps_out_of_place};
-pub use lines::{cuts_and_heads_out_of_place, rules_out_of_place};
+pub use lines::{cuts_and_heads_out_of_place, passes_open_heads, rules_out_of_place};
 pub use tidy::{states_not_tidy, tidy_states};

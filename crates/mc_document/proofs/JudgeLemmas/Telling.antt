@@ -1,5 +1,5 @@
 -- Verdicts on texts, without a judge.
-use Rattle.std.proofs.Common.{◌≡◌, ◌≢◌, inl, inr, ◌<◌, ℕ, suc, List, [], ◌∷◌, ◌++◌, Bool, true, false, Some, None, length, refl, sym, ◌∙◌, ap, subst, arith}
+use Rattle.std.proofs.Common.{◌≡◌, ◌≢◌, inl, inr, ◌<◌, ℕ, suc, List, [], ◌∷◌, ◌++◌, Bool, true, false, not, Some, None, length, refl, sym, ◌∙◌, ap, subst, arith}
 use Rattle.std.specs.Prelude.{Result, Ok, Err, IfOk, ◌&&◌, if◌then◌else◌}
 use Rattle.std.specs.declared.alloc.AllocError.{AllocError}
 use Rattle.mc_lines.specs.declared.cert.line.Line.{Line}
@@ -18,7 +18,7 @@ use Rattle.mc_rules_steps.specs.Operands.{code_at}
 use Rattle.mc_kernel.specs.Branches.{Path, roots}
 use Rattle.mc_kernel.specs.Certificates.{IsValidCertificate, states_of}
 use Rattle.mc_kernel.specs.Judges.{Knowledge, is_cut, judged_line}
-use Rattle.mc_kernel.specs.Readings.{Reading, Stage, cutting, heading, ruling, finished, begun, is_cutting, is_skip, comes_after, stands_after, has_all_heads, may_head, may_pass, has_no_branch, first_branch, marked, ready, rooted, ruled, setting_of, reading_rule, reading_line, reading_lines}
+use Rattle.mc_kernel.specs.Readings.{Reading, Stage, cutting, heading, ruling, finished, begun, is_cutting, is_ruling, is_skip, comes_after, stands_after, has_all_heads, may_head, may_pass, has_no_branch, first_branch, marked, ready, rooted, ruled, setting_of, reading_rule, reading_line, reading_lines}
 use Rattle.mc_kernel.specs.Reading.Documents.{Ends, IsJudge, IsShortChain, reading_document}
 use Rattle.mc_kernel.specs.Reading.Laws.{CertificatesAreRead, CertificatesStickNowhere, ChainsAreRead, ReadIsNotRefused}
 use Rattle.mc_kernel.proofs.ReadingLemmas.Kept.{some_is}
@@ -94,8 +94,8 @@ module _ (k : Knowledge) (well : RawState → Bool) (flow : Flow) (defs : List D
       ap (λ (x : Reading). x.form) (sym is)
   line_form line.Pass r new e =
       let one = need_ok 1 (may_pass flow r r.stage) _ new e in
-      let three = need_ok 3 (is_cutting r.stage) _ new one.1 in
-      let is : ruled r (roots flow []) ≡ new = cc three.1 in
+      let three = need_ok 3 (not (is_ruling r.stage)) _ new one.1 in
+      let is : ruled r (roots flow (states_of r.heads)) ≡ new = cc three.1 in
       ap (λ (x : Reading). x.form) (sym is)
   line_form line.End r new e =
       let one = have_ok 1 (ready flow r r.stage) _ new e in

@@ -1,5 +1,5 @@
 -- A document is read where it stands.
-use Rattle.std.proofs.Common.{◌≡◌, ◌+◌, ◌∙◌, ℕ, suc, List, [], ◌∷◌, ◌++◌, Bool, true, false, Option, Some, None, length, map, refl, ap, sym, subst, length-append}
+use Rattle.std.proofs.Common.{◌≡◌, ◌+◌, ◌∙◌, ℕ, suc, List, [], ◌∷◌, ◌++◌, Bool, true, false, not, Option, Some, None, length, map, refl, ap, sym, subst, length-append}
 use Rattle.std.specs.Prelude.{◌&&◌, Result, Ok, Err, if◌then◌else◌}
 use Rattle.mc_state.specs.RawStates.{state_of}
 use Rattle.mc_state.specs.declared.line.Version.{Version}
@@ -17,7 +17,7 @@ use Rattle.mc_rules_steps.specs.Operands.{code_at}
 use Rattle.mc_kernel.specs.Branches.{Head, Path, roots}
 use Rattle.mc_kernel.specs.Certificates.{WrittenHead, states_of}
 use Rattle.mc_kernel.specs.Judges.{Knowledge, is_cut, judged_line}
-use Rattle.mc_kernel.specs.Readings.{Reading, Stage, cutting, heading, ruling, finished, setting_of, is_cutting, has_all_heads, ready, rooted, ruled, is_skip, comes_after, stands_after, may_head, may_pass, has_no_branch, first_branch, marked, reading_cut, reading_head, reading_pass, reading_end, reading_rule, reading_line}
+use Rattle.mc_kernel.specs.Readings.{Reading, Stage, cutting, heading, ruling, finished, setting_of, is_cutting, is_ruling, has_all_heads, ready, rooted, ruled, is_skip, comes_after, stands_after, may_head, may_pass, has_no_branch, first_branch, marked, reading_cut, reading_head, reading_pass, reading_end, reading_rule, reading_line}
 use Rattle.mc_kernel.specs.Reading.Documents.{IsJudge, is_rule}
 use Rattle.mc_document.specs.declared.proof.fault.ApplyFault.{ApplyFault}
 use Rattle.mc_document.specs.declared.proof.fault.ApplyFault.TheVariants.{Premise, NoMemory}
@@ -87,7 +87,7 @@ module _ (flow : Flow) (defs : List Def) where
   may_pass_same r finished = refl
 
   pass_same : (r : Reading) → passing_at (at r) ≡ then_give at (reading_pass flow r)
-  pass_same r = rw (may_pass_same r r.stage) (two at 1 3 (may_pass flow r r.stage) (is_cutting r.stage) (ruled r (roots flow [])))
+  pass_same r = rw (may_pass_same r r.stage) (two at 1 3 (may_pass flow r r.stage) (not (is_ruling r.stage)) (ruled r (roots flow (states_of r.heads))))
 
   -- ---- where rule lines are read
 

@@ -98,7 +98,7 @@ impl<'f> Proof<'f> {
         }
     }
 
-    /// The first open branch. None before the first line of a rule, and where no branch is open.
+    /// The first open branch. None before rule lines begin, and where no branch is open.
     pub fn current(&self) -> Option<&Branch>
         ensures { option_map (λ b. path b.now) result ≡ option_map (λ b. b.0) (first_branch self.now.branches) }
     {

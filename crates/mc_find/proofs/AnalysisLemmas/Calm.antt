@@ -16,10 +16,12 @@ use Rattle.mc_state.specs.declared.line.Form.TheVariants.{Certificate, Chain}
 use Rattle.mc_state.specs.declared.line.Version.TheVariants.{One}
 use Rattle.mc_state.specs.State.{State}
 use Rattle.mc_rules_steps.specs.Next.{Next}
+use Rattle.mc_kernel.specs.Branches as branches
 use Rattle.mc_kernel.specs.Branches.{Path, Setting, path_of, path_to, roots, with_state}
-use Rattle.mc_kernel.specs.Certificates.{IsValidCertificate}
+use Rattle.mc_kernel.specs.Certificates.{IsValidCertificate, WrittenHead, states_of}
 use Rattle.mc_kernel.specs.Instances.{ByFolding, ByLogic, ByMerging, ByStep, ByUnfolding, IsInstance, Reads, stuck_by}
 use Rattle.mc_kernel.specs.Reading.Documents.{IsShortChain}
+use Rattle.mc_kernel.proofs.ReadingLemmas.Front.{head_line}
 use Rattle.mc_find.specs.Analysis.Findings.{stays, under_header}
 
 -- a branch that is not closing: folds close branches in chains alone
@@ -39,12 +41,20 @@ opened_states : (make : State → Path) (states : List State) → map opened (ma
 opened_states make [] = refl
 opened_states make (s ∷ states) = ap (λ (bs : List Path). opened (make s) ∷ bs) (opened_states make states)
 
-module _ (flow : Flow) (defs : List Def) (cuts : List PointId) where
+-- no branch is closing at first
+opened_begun : (heads : List branches.Head) → map opened (map (λ (h : branches.Head). branches.begins h.0 h.1) heads) ≡ map (λ (h : branches.Head). branches.begins h.0 h.1) heads
+opened_begun [] = refl
+opened_begun (h ∷ heads) = ap (λ (bs : List Path). branches.begins h.0 h.1 ∷ bs) (opened_begun heads)
+
+pub opened_roots : (flow : Flow) (heads : List branches.Head) → map opened (roots flow heads) ≡ roots flow heads
+opened_roots flow heads = ap (λ (bs : List Path). branches.entry_path flow ∷ bs) (opened_begun heads)
+
+module _ (flow : Flow) (defs : List Def) (cuts : List PointId) (heads : List branches.Head) where
   abbrev pub chain : Setting
-  chain = record { form = Chain; cuts = cuts; heads = [] }
+  chain = record { form = Chain; cuts = cuts; heads = heads }
 
   abbrev pub certificate : Setting
-  certificate = record { form = Certificate; cuts = cuts; heads = [] }
+  certificate = record { form = Certificate; cuts = cuts; heads = heads }
 
   by_step : (rule : InstrRule) (b : Path) (next : List Path) → ByStep rule flow chain b next → ByStep rule flow certificate (opened b) (map opened next)
   by_step rule b next (may, (steps, is, gives)) = (
@@ -143,25 +153,36 @@ cuts_stay : (cuts : List PointId) → filter stays (map Cut cuts) ≡ map Cut cu
 cuts_stay [] = refl
 cuts_stay (p ∷ cuts) = ap (λ (ls : List Line). Cut p ∷ ls) (cuts_stay cuts)
 
-pub chain_stays : (flow : Flow) (defs : List Def) (g : Setting) (cuts : List PointId) (rules : List Line) (bs stuck : List Path)
+heads_stay : (heads : List WrittenHead) → filter stays (map head_line heads) ≡ map head_line heads
+heads_stay [] = refl
+heads_stay (h ∷ heads) = ap (λ (ls : List Line). head_line h ∷ ls) (heads_stay heads)
+
+pub chain_stays : (flow : Flow) (defs : List Def) (g : Setting) (cuts : List PointId) (heads : List WrittenHead) (rules : List Line) (bs stuck : List Path)
     → Reads flow defs g rules bs stuck
-    → filter stays (Header One Chain ∷ (map Cut cuts ++ (Pass ∷ (rules ++ End ∷ [])))) ≡ map Cut cuts ++ (rules ++ End ∷ [])
-chain_stays flow defs g cuts rules bs stuck r =
-    filter-append stays (map Cut cuts) (Pass ∷ (rules ++ End ∷ []))
-    ∙ ap (λ (ls : List Line). ls ++ filter stays (rules ++ End ∷ [])) (cuts_stay cuts)
-    ∙ ap (λ (ls : List Line). map Cut cuts ++ ls) (filter-append stays rules (End ∷ []) ∙ ap (λ (ls : List Line). ls ++ End ∷ []) (rules_stay flow defs g rules bs stuck r))
+    → filter stays (Header One Chain ∷ (map Cut cuts ++ (map head_line heads ++ (Pass ∷ (rules ++ End ∷ [])))))
+    ≡ map Cut cuts ++ (map head_line heads ++ (rules ++ End ∷ []))
+chain_stays flow defs g cuts heads rules bs stuck r =
+    filter-append stays (map Cut cuts) (map head_line heads ++ (Pass ∷ (rules ++ End ∷ [])))
+    ∙ ap (λ (ls : List Line). ls ++ filter stays (map head_line heads ++ (Pass ∷ (rules ++ End ∷ [])))) (cuts_stay cuts)
+    ∙ ap (λ (ls : List Line). map Cut cuts ++ ls)
+    (filter-append stays (map head_line heads) (Pass ∷ (rules ++ End ∷ []))
+    ∙ ap (λ (ls : List Line). ls ++ filter stays (rules ++ End ∷ [])) (heads_stay heads)
+    ∙ ap (λ (ls : List Line). map head_line heads ++ ls)
+    (filter-append stays rules (End ∷ []) ∙ ap (λ (ls : List Line). ls ++ End ∷ []) (rules_stay flow defs g rules bs stuck r)))
 
 -- under the header of a certificate, the lines that stay are one
 pub is_certificate : (flow : Flow) (defs : List Def) (lines : List Line) → IsShortChain flow defs lines []
     → IsValidCertificate flow defs (under_header lines)
 is_certificate flow defs lines c = record {
   cuts = c.cuts;
-  heads = [];
+  heads = c.heads;
   rules = c.rules;
   spelled = ap (λ (ls : List Line). Header One Certificate ∷ filter stays ls) c.spelled
-      ∙ ap (λ (ls : List Line). Header One Certificate ∷ ls) (chain_stays flow defs (chain flow defs c.cuts) c.cuts c.rules (roots flow []) [] c.pass.reads);
+      ∙ ap (λ (ls : List Line). Header One Certificate ∷ ls)
+      (chain_stays flow defs (chain flow defs c.cuts (states_of c.heads)) c.cuts c.heads c.rules (roots flow (states_of c.heads)) [] c.pass.reads);
   cuts_are = c.pass.cuts_are;
-  ordered = tt;
-  heads_are = tt;
-  reads = reads_still flow defs c.cuts c.rules (roots flow []) [] refl c.pass.reads;
+  ordered = c.ordered;
+  heads_are = c.heads_are;
+  reads = subst (λ (bs : List Path). Reads flow defs (certificate flow defs c.cuts (states_of c.heads)) c.rules bs []) (opened_roots flow (states_of c.heads))
+      (reads_still flow defs c.cuts (states_of c.heads) c.rules (roots flow (states_of c.heads)) [] refl c.pass.reads);
 }

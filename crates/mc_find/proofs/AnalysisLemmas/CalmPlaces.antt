@@ -1,5 +1,5 @@
 -- The lines of a chain without stuck branches are in their places in the certificate too.
-use Rattle.std.proofs.Common.{◌≡◌, ◌++◌, ◌∷◌, ◌∙◌, ◌+◌, ◌≤◌, ℕ, cond, List, [], Bool, true, false, map, refl, sym, ap, subst, arith}
+use Rattle.std.proofs.Common.{◌≡◌, ◌++◌, ◌∷◌, ◌∙◌, ◌+◌, ◌≤◌, ℕ, List, [], Bool, true, map, refl, sym, ap, subst, arith}
 use Rattle.std.specs.Prelude.{Ok, Some, None, if◌then◌else◌}
 use Rattle.std.proofs.lemmas.List.{map-append}
 use Rattle.std.specs.List.{AllByRecursion, filter, list_all}
@@ -15,12 +15,14 @@ use Rattle.mc_state.specs.declared.raw_state.RawState.{RawState}
 use Rattle.mc_state.specs.Laws.{UnknownIsBounded}
 use Rattle.mc_state.specs.Premises.{Judged, have, need, then_give}
 use Rattle.mc_kernel.specs.Branches.{Path, entry_path, roots}
+use Rattle.mc_kernel.specs.Certificates.{AreHeads, WrittenHead, states_of}
 use Rattle.mc_kernel.specs.Instances.{IsInstance, Reads, stuck_by}
 use Rattle.mc_kernel.specs.JudgedLaws.{LinesAreJudged}
 use Rattle.mc_kernel.specs.Judges.{Knowledge, is_cut, judged_line}
 use Rattle.mc_kernel.specs.Readings.{Reading, begun, first_branch, has_all_heads, marked, reading_line, reading_rule, ruled, setting_of}
 use Rattle.mc_kernel.specs.Reading.Documents.{IsJudge, IsMade, IsShortChain}
 use Rattle.mc_kernel.specs.Reading.Laws.{LinesMakeWellMade}
+use Rattle.mc_kernel.proofs.ReadingLemmas.Front.{head_line}
 use Rattle.mc_kernel.proofs.ReadingLemmas.Lists.{all_join}
 use Rattle.mc_kernel.proofs.ReadingLemmas.Rules.{ruling_at}
 use Rattle.mc_document.specs.Places.{AreInPlace, HasPlaces, cut_of, cuts_of, may_stand}
@@ -55,17 +57,17 @@ module _ (judged : LinesAreJudged) (makes : LinesMakeWellMade) (flow : Flow) (de
   Still rest bs = (stuck own : List Path) → InPlace rest (in_chain bs stuck) → InPlace rest (in_certificate (map opened bs) own)
 
   rule_still : (l : Line) (rest : List Line) (b : Path) (bs next later stuck own : List Path) → stuck_by l b later ≡ [] → AreMade (b ∷ bs)
-      → IsInstance flow defs (chain flow defs []) l b next → Still rest (next ++ bs)
+      → IsInstance flow defs (chain flow defs [] []) l b next → Still rest (next ++ bs)
       → ((new : Reading) → reading_rule k flow defs l (in_chain (b ∷ bs) stuck) ≡ Ok new → InPlace rest new)
       → (new : Reading) → reading_rule k flow defs l (in_certificate (opened b ∷ map opened bs) own) ≡ Ok new → InPlace rest new
   rule_still l rest b bs next later stuck own none made i goes on new read =
       let given : reading_rule k flow defs l (in_chain (b ∷ bs) stuck) ≡ Ok (in_chain (next ++ bs) (stuck ++ marked l b)) =
-      ap (then_give (λ (n : List Path). in_chain (n ++ bs) (stuck ++ marked l b))) ((judged k flow defs (chain flow defs []) l b (judge.asked b made.0) next).1 i) in
+      ap (then_give (λ (n : List Path). in_chain (n ++ bs) (stuck ++ marked l b))) ((judged k flow defs (chain flow defs [] []) l b (judge.asked b made.0) next).1 i) in
       let come : reading_rule k flow defs l (in_certificate (opened b ∷ map opened bs) own)
       ≡ Ok (in_certificate (map opened next ++ map opened bs) (own ++ marked l (opened b))) =
       ap (then_give (λ (n : List Path). in_certificate (n ++ map opened bs) (own ++ marked l (opened b))))
-      ((judged k flow defs (certificate flow defs []) l (opened b) (judge.asked (opened b) made.0) (map opened next)).1
-      (instance_still flow defs [] l b next later none i)) in
+      ((judged k flow defs (certificate flow defs [] []) l (opened b) (judge.asked (opened b) made.0) (map opened next)).1
+      (instance_still flow defs [] [] l b next later none i)) in
       let same : in_certificate (map opened next ++ map opened bs) (own ++ marked l (opened b)) ≡ new =
       one_next (in_certificate (map opened next ++ map opened bs) (own ++ marked l (opened b))) new
       (reading_rule k flow defs l (in_certificate (opened b ∷ map opened bs) own)) come read in
@@ -74,7 +76,7 @@ module _ (judged : LinesAreJudged) (makes : LinesMakeWellMade) (flow : Flow) (de
       (goes (stuck ++ marked l b) (own ++ marked l (opened b)) (on (in_chain (next ++ bs) (stuck ++ marked l b)) given))
 
   line_still : (l : Line) (rest : List Line) (b : Path) (bs next later : List Path) → stuck_by l b later ≡ [] → AreMade (b ∷ bs)
-      → IsInstance flow defs (chain flow defs []) l b next → Still rest (next ++ bs) → Still (l ∷ rest) (b ∷ bs)
+      → IsInstance flow defs (chain flow defs [] []) l b next → Still rest (next ++ bs) → Still (l ∷ rest) (b ∷ bs)
   line_still (Header version form) rest b bs next later none made i goes stuck own placed = absurd i
   line_still (Cut p) rest b bs next later none made i goes stuck own placed = absurd i
   line_still (Head p raw) rest b bs next later none made i goes stuck own placed = absurd i
@@ -83,20 +85,20 @@ module _ (judged : LinesAreJudged) (makes : LinesMakeWellMade) (flow : Flow) (de
   line_still l rest b bs next later none made i goes stuck own placed =
       (placed.0, rule_still l rest b bs next later stuck own none made i goes placed.1)
 
-  all_still : (rules : List Line) (bs more : List Path) → more ≡ [] → AreMade bs → Reads flow defs (chain flow defs []) rules bs more
+  all_still : (rules : List Line) (bs more : List Path) → more ≡ [] → AreMade bs → Reads flow defs (chain flow defs [] []) rules bs more
       → Still (rules ++ End ∷ []) bs
   all_still [] bs more none made (closed, e) stuck own placed =
       (subst (λ (cs : List Path). may_stand End (map opened cs) ≡ true) (sym closed) refl, λ next read. tt)
   all_still (l ∷ rules) [] more none made r stuck own placed = absurd r
   all_still (l ∷ rules) (b ∷ bs) more none made (next, later, i, rest, marks) stuck own placed =
       let none_here : stuck_by l b later ≡ [] = sym marks ∙ none in
-      let none_then : later ≡ [] = none_later flow defs [] l b later none_here in
-      let next_made : AreMade (next ++ bs) = all_join (IsMade flow defs) next bs (makes flow defs (chain flow defs []) l b next valid made.0 i) made.1 in
+      let none_then : later ≡ [] = none_later flow defs [] [] l b later none_here in
+      let next_made : AreMade (next ++ bs) = all_join (IsMade flow defs) next bs (makes flow defs (chain flow defs [] []) l b next valid made.0 i) made.1 in
       line_still l (rules ++ End ∷ []) b bs next later none_here made i (all_still rules (next ++ bs) later none_then next_made rest) stuck own placed
 
   -- ---- the first line
 
-  first_still : (l : Line) (rest : List Line) (b : Path) (next : List Path) → has_all_heads flow [] ≡ true → IsInstance flow defs (chain flow defs []) l b next
+  first_still : (l : Line) (rest : List Line) (b : Path) (next : List Path) → has_all_heads flow [] ≡ true → IsInstance flow defs (chain flow defs [] []) l b next
       → InPlace (l ∷ rest) (in_certificate (roots flow []) []) → InPlace (l ∷ rest) (begun Certificate)
   first_still (Header version form) rest b next full i placed = absurd i
   first_still (Cut p) rest b next full i placed = absurd i
@@ -108,12 +110,12 @@ module _ (judged : LinesAreJudged) (makes : LinesMakeWellMade) (flow : Flow) (de
       same : reading_rule k flow defs l (begun Certificate) ≡ reading_rule k flow defs l (in_certificate (roots flow []) [])
       same = ap (λ (all : Bool). have 1 (if all then Some (ruled (begun Certificate) (roots flow [])) else None) (reads_at k flow defs l)) full
 
-  begun_still : (rules : List Line) → has_all_heads flow [] ≡ true → Reads flow defs (chain flow defs []) rules (roots flow []) []
+  begun_still : (rules : List Line) → has_all_heads flow [] ≡ true → Reads flow defs (chain flow defs [] []) rules (roots flow []) []
       → InPlace (rules ++ End ∷ []) (in_certificate (roots flow []) []) → InPlace (rules ++ End ∷ []) (begun Certificate)
   begun_still [] full (closed, e) placed = absurd (cc closed)
   begun_still (l ∷ rules) full (next, later, i, rest, marks) placed = first_still l (rules ++ End ∷ []) (entry_path flow) next full i placed
 
-  pub all_placed : (rules : List Line) → flow.heads ≡ [] → AreMade (roots flow []) → Reads flow defs (chain flow defs []) rules (roots flow []) []
+  pub all_placed : (rules : List Line) → flow.heads ≡ [] → AreMade (roots flow []) → Reads flow defs (chain flow defs [] []) rules (roots flow []) []
       → InPlace (Pass ∷ (rules ++ End ∷ [])) (begun Chain) → InPlace (rules ++ End ∷ []) (begun Certificate)
   all_placed rules no_loops made reads placed =
       let full : has_all_heads flow [] ≡ true = ap (λ (heads : List PointId). list_all (is_cut []) heads) no_loops in
@@ -140,6 +142,11 @@ no_cuts : (cuts : List PointId) (more : List Line) → cuts_of (map Cut cuts ++ 
 no_cuts [] more e = refl
 no_cuts (p ∷ cuts) more e = absurd (cc e)
 
+-- and then no heads
+no_heads : (flow : Flow) (defs : List Def) (heads : List WrittenHead) → AreHeads flow defs [] heads → heads ≡ []
+no_heads flow defs [] are = refl
+no_heads flow defs (h ∷ heads) are = let less = are.0.0.1 in absurd (omega (arith, less))
+
 same_behind : (own lines : List Line) → ◌≡◌ {A = List Line} (Header One Chain ∷ lines) (Header One Chain ∷ own) → own ≡ lines
 same_behind own lines e = cc e
 
@@ -147,26 +154,32 @@ same_behind own lines e = cc e
 
 record IsUncut (flow : Flow) (defs : List Def) (lines : List Line) : Type 0 where
   pub rules : List Line
-  pub reads : Reads flow defs (chain flow defs []) rules (roots flow []) []
+  pub reads : Reads flow defs (chain flow defs [] []) rules (roots flow []) []
   pub spelled : lines ≡ Header One Chain ∷ (Pass ∷ (rules ++ End ∷ []))
   pub kept : filter stays lines ≡ rules ++ End ∷ []
 
 uncut : (flow : Flow) (defs : List Def) (lines : List Line) → flow.heads ≡ [] → IsShortChain flow defs lines [] → cuts_of lines ≡ flow.heads
     → IsUncut flow defs lines
-uncut flow defs lines no_loops c cuts = of_cuts c.cuts none c.spelled c.pass.reads
+uncut flow defs lines no_loops c cuts = of_cuts c.cuts c.heads none c.heads_are c.spelled c.pass.reads
   where
     none : c.cuts ≡ []
-    none = no_cuts c.cuts (Pass ∷ (c.rules ++ End ∷ [])) (sym (ap cuts_of c.spelled) ∙ cuts ∙ no_loops)
+    none = no_cuts c.cuts (map head_line c.heads ++ (Pass ∷ (c.rules ++ End ∷ []))) (sym (ap cuts_of c.spelled) ∙ cuts ∙ no_loops)
 
-    of_cuts : (cuts : List PointId) → cuts ≡ [] → lines ≡ Header One Chain ∷ (map Cut cuts ++ (Pass ∷ (c.rules ++ End ∷ [])))
-        → Reads flow defs (chain flow defs cuts) c.rules (roots flow []) [] → IsUncut flow defs lines
-    of_cuts (p ∷ cuts) e spelled reads = absurd (cc e)
-    of_cuts [] e spelled reads = record {
+    of_heads : (heads : List WrittenHead) → heads ≡ [] → lines ≡ Header One Chain ∷ (map head_line heads ++ (Pass ∷ (c.rules ++ End ∷ [])))
+        → Reads flow defs (chain flow defs [] (states_of heads)) c.rules (roots flow (states_of heads)) [] → IsUncut flow defs lines
+    of_heads (h ∷ heads) e spelled reads = absurd (cc e)
+    of_heads [] e spelled reads = record {
       rules = c.rules;
       reads = reads;
       spelled = spelled;
-      kept = ap (λ (ls : List Line). filter stays ls) spelled ∙ chain_stays flow defs (chain flow defs []) [] c.rules (roots flow []) [] reads;
+      kept = ap (λ (ls : List Line). filter stays ls) spelled ∙ chain_stays flow defs (chain flow defs [] []) [] [] c.rules (roots flow []) [] reads;
     }
+
+    of_cuts : (cuts : List PointId) (heads : List WrittenHead) → cuts ≡ [] → AreHeads flow defs cuts heads
+        → lines ≡ Header One Chain ∷ (map Cut cuts ++ (map head_line heads ++ (Pass ∷ (c.rules ++ End ∷ []))))
+        → Reads flow defs (chain flow defs cuts (states_of heads)) c.rules (roots flow (states_of heads)) [] → IsUncut flow defs lines
+    of_cuts (p ∷ cuts) heads e are spelled reads = absurd (cc e)
+    of_cuts [] heads e are spelled reads = of_heads heads (no_heads flow defs heads are) spelled reads
 
 -- the lines of a chain without stuck branches, under the header of a certificate, are found
 pub calm_is_found : LinesAreJudged → LinesMakeWellMade → UnknownIsBounded → (flow : Flow) (defs : List Def) (lines : List Line) → IsValid flow defs

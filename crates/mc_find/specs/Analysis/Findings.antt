@@ -10,22 +10,49 @@ use Rattle.mc_follow.specs.Alarms.Outcomes.{IsCrowded}
 use Rattle.mc_follow.specs.Alarms.Walks.{ended_by}
 use Rattle.mc_document.specs.Judge.Verdicts.{SpellAll}
 use Rattle.mc_document.specs.Places.{HasPlaces}
-use Rattle.mc_state.specs.declared.line.Form.TheVariants.{Certificate, Chain}
+use Rattle.mc_state.specs.declared.line.Form.TheVariants as forms
 use Rattle.mc_state.specs.declared.line.Version.TheVariants.{One}
 use Rattle.mc_kernel.specs.Branches.{Path}
 use Rattle.mc_kernel.specs.Certificates.{IsValidCertificate}
 use Rattle.mc_kernel.specs.Reading.Documents.{IsShortChain}
 use Rattle.mc_follow.specs.Report.Report.{IsCertificateReport, IsChainReport}
+use Rattle.mc_follow.specs.declared.report.chains.ChainReport.{ChainReport}
 use Rattle.mc_find.specs.declared.analysis.analysis.Analysis.{Analysis}
 use Rattle.mc_find.specs.declared.analysis.analysis.Analysis.TheVariants.{Safe, Alarms, Paths, Unknown}
 use Rattle.mc_find.specs.declared.analysis.analysis.Findings.{Findings}
+use Rattle.mc_find.specs.declared.analysis.proposed.Proposed.{Proposed}
+use Rattle.mc_find.specs.declared.analysis.proposed.Proposed.TheVariants as proposed
 
 -- the lines are a valid certificate as it is found: no more than 65,536 branches are ended, the cuts are the loop heads, and on
 -- side branches no line stands but those that may
 pub record IsFound (flow : Flow) (defs : List Def) (lines : List Line) : Type 0 where
   pub valid : IsValidCertificate flow defs lines
   pub within : ended_by lines ≤ 65536
-  pub places : HasPlaces flow defs Certificate lines
+  pub places : HasPlaces flow defs forms.Certificate lines
+
+-- the lines are a chain of one pass as it is found: a branch is stuck, no more than 65,536 branches are ended, the cuts are the
+-- loop heads, and on side branches no line stands but those that may
+pub record IsFoundChain (flow : Flow) (defs : List Def) (lines : List Line) : Type 0 where
+  pub stuck : List Path
+  pub chain : IsShortChain flow defs lines stuck
+  pub some : 0 < length stuck
+  pub within : ended_by lines ≤ 65536
+  pub places : HasPlaces flow defs forms.Chain lines
+
+-- the lines are such a chain, and the report is that of its heads and its stuck branches, of which there are so many
+pub record IsReported (flow : Flow) (defs : List Def) (lines : List Line) (r : ChainReport) : Type 0 where
+  pub stuck : List Path
+  pub chain : IsShortChain flow defs lines stuck
+  pub within : ended_by lines ≤ 65536
+  pub places : HasPlaces flow defs forms.Chain lines
+  pub report : IsChainReport flow defs chain.heads stuck r.text.items
+  pub counted : r.count ≡ length stuck
+  pub some : 0 < r.count
+
+-- what a search for alarms proposes is a certificate or a chain as it is found, a chain with its report
+abbrev pub IsProposed : Flow → List Def → Proposed → Type 0
+IsProposed flow defs (proposed.Certificate lines) = IsFound flow defs lines.items
+IsProposed flow defs (proposed.Chain lines report) = IsReported flow defs lines.items report
 
 -- the document spells a valid certificate as it is found, and the report is that of its heads
 pub record IsProved (flow : Flow) (defs : List Def) (f : Findings) : Type 0 where
@@ -33,7 +60,7 @@ pub record IsProved (flow : Flow) (defs : List Def) (f : Findings) : Type 0 wher
   pub spelled : SpellAll (lines_of f.document.items) lines
   pub valid : IsValidCertificate flow defs lines
   pub within : ended_by lines ≤ 65536
-  pub places : HasPlaces flow defs Certificate lines
+  pub places : HasPlaces flow defs forms.Certificate lines
   pub report : IsCertificateReport flow defs valid.heads f.report.items
 
 -- the document spells a chain of one pass with so many stuck branches, of which no more than 65,536 branches are ended, with the
@@ -44,7 +71,7 @@ pub record HasAlarms (flow : Flow) (defs : List Def) (f : Findings) (count : ℕ
   pub spelled : SpellAll (lines_of f.document.items) lines
   pub chain : IsShortChain flow defs lines stuck
   pub within : ended_by lines ≤ 65536
-  pub places : HasPlaces flow defs Chain lines
+  pub places : HasPlaces flow defs forms.Chain lines
   pub report : IsChainReport flow defs chain.heads stuck f.report.items
   pub counted : count ≡ length stuck
   pub some : 0 < count
@@ -63,7 +90,7 @@ stays other = true
 
 -- the lines of a chain under the header of a certificate, without the pass
 abbrev pub under_header : List Line → List Line
-under_header lines = line.Header One Certificate ∷ filter stays lines
+under_header lines = line.Header One forms.Certificate ∷ filter stays lines
 
 -- what is found; where there are loops, a search may give up
 abbrev pub IsAnalysis : Flow → List Def → Analysis → Type 0

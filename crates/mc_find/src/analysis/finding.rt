@@ -2,14 +2,15 @@
 ghost use Rattle.std.specs.Prelude.{◌≡◌, ◌<◌, [], IfOk};
 ghost use Rattle.mc_follow.specs.Alarms.Outcomes.{IsCrowded, IsWhole};
 ghost use Rattle.mc_flow.specs.Valid.{IsValid};
-ghost use Rattle.mc_find.specs.Analysis.Findings.{HasAlarms, HasTooManyPaths, IsAnalysis, IsFound, IsProved, stays, under_header};
+ghost use Rattle.mc_find.specs.Analysis.Findings.{HasAlarms, HasTooManyPaths, IsAnalysis, IsFound, IsProposed, IsProved, IsReported, stays, under_header};
 
-use crate::analysis::{Analysis, Findings};
+use crate::alarming::find_alarms;
+use crate::analysis::{Analysis, Findings, Proposed};
 use crate::{Limits, find};
 use mc_base::NoMemory;
 use mc_flow::{Defs, Flow};
 use mc_follow::alarms::{Document, Outcome, alarms};
-use mc_follow::report::certificate_report;
+use mc_follow::report::{ChainReport, certificate_report};
 use mc_kernel::lines_are_judged;
 use mc_kernel::reading::lines_make_well_made;
 use mc_lines::cert::{Form, Line, Version};
@@ -40,6 +41,24 @@ fn alarming(alloc: Global, flow: &Flow, defs: &Defs, chain: Document) -> Result<
     Ok(Findings {
         document,
         report: chain.text,
+    })
+}
+
+// The document of a chain that is found, with its report.
+fn reporting(
+    alloc: Global,
+    flow: &Flow,
+    defs: &Defs,
+    lines: &[Line],
+    report: ChainReport,
+) -> Result<Findings, NoMemory>
+    requires { IsReported flow.now defs.now lines.now report }
+    ensures { IfOk result (λ f. HasAlarms flow.now defs.now f report.count) }
+{
+    let document = document(alloc, lines)?;
+    Ok(Findings {
+        document,
+        report: report.text,
     })
 }
 
@@ -116,7 +135,47 @@ fn without_loops(alloc: Global, flow: &Flow, defs: &Defs) -> Result<Analysis, No
     }
 }
 
-// Where there are loops, a certificate is searched for whose cuts have so many states at most.
+// What is proposed, as it is answered.
+fn answered(
+    alloc: Global,
+    flow: &Flow,
+    defs: &Defs,
+    proposed: Proposed,
+) -> Result<Analysis, NoMemory>
+    requires { IsProposed flow.now defs.now proposed }
+    ensures { IfOk result (IsAnalysis flow.now defs.now) }
+{
+    match proposed {
+        Proposed::Certificate(lines) => {
+            let findings = proved(alloc, flow, defs, lines.as_slice())?;
+            Ok(Analysis::Safe(findings))
+        }
+        Proposed::Chain(lines, report) => {
+            let count = report.count;
+            let findings = reporting(alloc, flow, defs, lines.as_slice(), report)?;
+            Ok(Analysis::Alarms(findings, count))
+        }
+    }
+}
+
+// Where no certificate was found, a chain with alarms is searched for.
+fn with_alarms(
+    alloc: Global,
+    flow: &Flow,
+    defs: &Defs,
+    limits: Limits,
+) -> Result<Analysis, NoMemory>
+    requires valid { IsValid flow.now defs.now }
+    requires loops { flow.now.heads ≡ [] → ⊥ }
+    ensures { IfOk result (IsAnalysis flow.now defs.now) }
+{
+    match find_alarms(alloc, flow, defs, limits)? {
+        Some(proposed) => answered(alloc, flow, defs, proposed),
+        None => Ok(Analysis::Unknown),
+    }
+}
+
+// Where there are loops, a certificate is searched for whose cuts have so many states at most, and then a chain.
 fn with_loops(alloc: Global, flow: &Flow, defs: &Defs, states: usize) -> Result<Analysis, NoMemory>
     requires valid { IsValid flow.now defs.now }
     requires loops { flow.now.heads ≡ [] → ⊥ }
@@ -131,7 +190,7 @@ fn with_loops(alloc: Global, flow: &Flow, defs: &Defs, states: usize) -> Result<
             let findings = proved(alloc, flow, defs, lines.as_slice())?;
             Ok(Analysis::Safe(findings))
         }
-        None => Ok(Analysis::Unknown),
+        None => with_alarms(alloc, flow, defs, limits),
     }
 }
 

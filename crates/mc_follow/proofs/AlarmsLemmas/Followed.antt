@@ -23,6 +23,7 @@ use Rattle.mc_kernel.specs.Progress.Progress.{IsInside, advances}
 use Rattle.mc_document.specs.Proof.Lines.{setting_at}
 use Rattle.mc_document.specs.Proof.Positions.{IsApplied, IsRefusedHere, Position, Stands, position_of}
 use Rattle.mc_kernel.specs.Reading.Documents.{IsAskedHere, IsJudge, IsKept, IsMade, IsReadAt, IsShortChain, is_rule, reading_document}
+use Rattle.mc_follow.specs.Report.Heads.{heads_of}
 use Rattle.mc_follow.specs.Report.Report.{AreAlarmLines, IsAlarmLine, count_line}
 use Rattle.mc_follow.specs.Alarms.Laws.{BranchesAreFollowed, DocumentsAreFollowed}
 use Rattle.mc_follow.specs.declared.alarms.outcome.Document.{Document}
@@ -32,10 +33,11 @@ use Rattle.mc_follow.specs.Alarms.Walks.{AreOpen, IsAtCode, IsAtFirst, IsCodeLin
 use Rattle.mc_state.specs.declared.goal.Goal.{Goal}
 use Rattle.mc_document.specs.Places.{AreInPlace, HasPlaces, cut_of, may_stand}
 use Rattle.mc_document.proofs.PlacesLemmas.{placed_more}
-use Rattle.mc_follow.proofs.AlarmsLemmas.Going.{ends_one, goes_by_advance, goes_by_rule, goes_unmarked, plain_stands, rule_uncut, uncut_more}
+use Rattle.mc_follow.proofs.AlarmsLemmas.Going.{ends_one, goes_by_advance, goes_by_rule, goes_unmarked, plain_stands, rule_uncut, rule_unheaded, uncut_more, unheaded_more}
+use Rattle.mc_follow.proofs.ReportLemmas.Written.{headless_report}
 
 -- what holds of a flow graph and definitions holds of equal ones
-move : (P : Flow → List Def → Type 0) (f g : Flow) (d e : List Def) → f ≡ g → d ≡ e → P f d → P g e
+pub move : (P : Flow → List Def → Type 0) (f g : Flow) (d e : List Def) → f ≡ g → d ≡ e → P f d → P g e
 move P f g d e p q x = subst (λ (ds : List Def). P g ds) q (subst (λ (h : Flow). P h d) p x)
 
 need_ok : {A : Type 0} (k : ℕ) (b : Bool) (x y : A) → ◌≡◌ {A = Judged A} (need k b (Ok x)) (Ok y) → x ≡ y
@@ -47,7 +49,7 @@ ended_more [] l = omega arith
 ended_more (m ∷ lines) l = let e : ended_by (lines ++ l ∷ []) ≡ ended_by lines + ending l = ended_more lines l in omega (arith, e)
 
 -- a line more after those of stuck branches
-alarm_more : (flow : Flow) (defs : List Def) (stuck : List Path) (b : Path) (text line : List ℕ) → AreAlarmLines flow defs stuck text
+pub alarm_more : (flow : Flow) (defs : List Def) (stuck : List Path) (b : Path) (text line : List ℕ) → AreAlarmLines flow defs stuck text
     → IsAlarmLine flow defs b.point b.state line → AreAlarmLines flow defs (stuck ++ b ∷ []) (text ++ line)
 alarm_more flow defs [] b text line none is = (line, [], is, refl, ap (λ (t : List ℕ). t ++ line) none ∙ sym (append-nil line))
 alarm_more flow defs (c ∷ stuck) b text line (own, later, is_own, rest, spelled) is =
@@ -56,7 +58,7 @@ alarm_more flow defs (c ∷ stuck) b text line (own, later, is_own, rest, spelle
 module _ (laws : DocumentsAreFollowed) (flow : Flow) (defs : List Def) (valid : IsValid flow defs) where
   module _ (k : Knowledge) (well : RawState → Bool) (judge : IsJudge k well flow defs) where
     -- what a line makes of what is read
-    record IsMore (lines : List Line) (l : Line) (last : Reading) (new : Position) : Type 0 where
+    pub record IsMore (lines : List Line) (l : Line) (last : Reading) (new : Position) : Type 0 where
       pub next : Reading
       pub line_read : reading_line k well flow defs l last ≡ Ok next
       pub read : reading_document k well flow defs Chain (lines ++ l ∷ []) ≡ Ok next
@@ -64,7 +66,7 @@ module _ (laws : DocumentsAreFollowed) (flow : Flow) (defs : List Def) (valid : 
       pub of_defs : new.defs ≡ defs
       pub stands : Stands k well next new
 
-    more : (lines : List Line) (l : Line) (last : Reading) (old new : Position) → reading_document k well flow defs Chain lines ≡ Ok last
+    pub more : (lines : List Line) (l : Line) (last : Reading) (old new : Position) → reading_document k well flow defs Chain lines ≡ Ok last
         → Stands k well last old → old.flow ≡ flow → old.defs ≡ defs → IsApplied l old new → IsMore lines l last new
     more lines l last old new read stands pf pd applied =
         let a = applied k well last stands in
@@ -102,7 +104,7 @@ module _ (laws : DocumentsAreFollowed) (flow : Flow) (defs : List Def) (valid : 
         judge.asked b (subst (λ (bs : List Path). AllByRecursion (IsMade flow defs) bs) branches kept.branches).0
 
     -- what the line of a rule makes of it
-    record IsRuled (l : Line) (last : Reading) (old : Position) (next : Reading) : Type 0 where
+    pub record IsRuled (l : Line) (last : Reading) (old : Position) (next : Reading) : Type 0 where
       pub first : Path
       pub others : List Path
       pub open_are : old.branches ≡ first ∷ others
@@ -114,7 +116,7 @@ module _ (laws : DocumentsAreFollowed) (flow : Flow) (defs : List Def) (valid : 
       pub same_form : next.form ≡ last.form
       pub same_cuts : next.cuts ≡ last.cuts
 
-    ruled_by : (l : Line) (last : Reading) (old : Position) (next : Reading) → is_rule l ≡ true → Stands k well last old
+    pub ruled_by : (l : Line) (last : Reading) (old : Position) (next : Reading) → is_rule l ≡ true → Stands k well last old
         → old.flow ≡ flow → old.defs ≡ defs → old.stage ≡ ruling → reading_line k well flow defs l last ≡ Ok next → IsRuled l last old next
     ruled_by l last old next rule stands pf pd e read =
         let stage : last.stage ≡ ruling = stage_is last old stands e in
@@ -233,6 +235,7 @@ module _ (laws : DocumentsAreFollowed) (flow : Flow) (defs : List Def) (valid : 
         within = few;
         no_loops = f.no_loops;
         uncut = uncut_more lines l (rule_uncut l (goes_by_rule l goes)) ∙ f.uncut;
+        unheaded = unheaded_more lines l f.unheaded (rule_unheaded l (goes_by_rule l goes));
         in_place = placed_more_by lines l old text ended fits.stands f;
       }
 
@@ -286,6 +289,7 @@ module _ (laws : DocumentsAreFollowed) (flow : Flow) (defs : List Def) (valid : 
         within = few;
         no_loops = f.no_loops;
         uncut = uncut_more lines line.C1 refl ∙ f.uncut;
+        unheaded = unheaded_more lines line.C1 f.unheaded refl;
         in_place = placed_more_by lines line.C1 old text ended (plain_stands line.C1 old.branches i.others i.first i.open_are stuck.plain) f;
       }
 
@@ -369,6 +373,7 @@ module _ (laws : DocumentsAreFollowed) (flow : Flow) (defs : List Def) (valid : 
         within = omega arith;
         no_loops = no_loops;
         uncut = refl;
+        unheaded = refl;
         in_place = λ k well judge. (refl, λ next read. tt);
       }
 
@@ -654,10 +659,12 @@ whole_is laws flow defs lines old new text ended count d f none applied is_count
     let own : ended ≡ ended_by lines = f.counted in
     let last : ended_by (lines ++ line.End ∷ []) ≡ ended_by lines + 0 = ended_more lines line.End in
     let all : ended_by d.lines.items ≡ ended_by (lines ++ line.End ∷ []) = ap ended_by is_lines in
+    let chain : IsShortChain flow defs d.lines.items h.stuck = subst (λ (ls : List Line). IsShortChain flow defs ls h.stuck) (sym is_lines) h.chain in
     record {
       stuck = h.stuck;
-      chain = subst (λ (ls : List Line). IsShortChain flow defs ls h.stuck) (sym is_lines) h.chain;
-      report = (text, h.alarms, is_text ∙ ap (λ (n : ℕ). text ++ count_line n) counted);
+      chain = chain;
+      report = headless_report flow defs d.lines.items h.stuck chain text d.text.items
+          (ap heads_of is_lines ∙ unheaded_more lines line.End f.unheaded refl) h.alarms (is_text ∙ ap (λ (n : ℕ). text ++ count_line n) counted);
       counted = is_own ∙ counted;
       within = omega (arith, within, own, last, all);
       places = subst (HasPlaces flow defs Chain) (sym is_lines) (places_more laws flow defs f.valid lines line.End old text ended refl (ap (may_stand line.End) none) f);

@@ -1,5 +1,5 @@
 -- Lines that go on, and where they may stand.
-use Rattle.std.proofs.Common.{◌≡◌, ◌≤◌, ◌++◌, ◌∷◌, ◌∙◌, List, Bool, true, false, Option, [], refl, ap, sym, subst, arith}
+use Rattle.std.proofs.Common.{◌≡◌, ◌≤◌, ◌++◌, ◌∷◌, ◌∙◌, List, Bool, true, false, Option, [], refl, ap, arith}
 use Rattle.std.specs.Prelude.{◌||◌, is_some, not}
 use Rattle.mc_base.specs.declared.ids.PointId.{PointId}
 use Rattle.mc_state.specs.declared.goal.Goal.{Goal}
@@ -11,7 +11,10 @@ use Rattle.mc_kernel.specs.Readings.{marked}
 use Rattle.mc_kernel.specs.Progress.Progress.{advances}
 use Rattle.mc_kernel.specs.Reading.Documents.{is_rule}
 use Rattle.mc_document.specs.Places.{cut_of, cuts_of, may_stand, may_stand_aside}
+use Rattle.mc_kernel.specs.Certificates.{WrittenHead}
 use Rattle.mc_follow.specs.Alarms.Walks.{ending, goes_on}
+use Rattle.mc_follow.specs.Report.Heads.{head_in, heads_of}
+use Rattle.mc_follow.proofs.ReportLemmas.Written.{heads_more}
 
 pub goes_by_rule : (l : Line) → goes_on l ≡ true → is_rule l ≡ true
 goes_by_rule (line.Header version form) e = absurd (cc e)
@@ -60,6 +63,17 @@ rule_uncut other e = refl
 pub uncut_more : (lines : List Line) (l : Line) → cut_of l ≡ [] → cuts_of (lines ++ l ∷ []) ≡ cuts_of lines
 uncut_more [] l e = ap (λ (cuts : List PointId). cuts ++ []) e
 uncut_more (m ∷ lines) l e = ap (λ (cuts : List PointId). cut_of m ++ cuts) (uncut_more lines l e)
+
+-- nor a head
+pub rule_unheaded : (l : Line) → is_rule l ≡ true → head_in l ≡ []
+rule_unheaded (line.Head p raw) e = absurd (cc e)
+rule_unheaded other e = refl
+
+pub unheaded_more : (lines : List Line) (l : Line) → heads_of lines ≡ [] → head_in l ≡ [] → heads_of (lines ++ l ∷ []) ≡ []
+unheaded_more lines l none no_head =
+    heads_more lines (l ∷ [])
+    ∙ ap (λ (heads : List WrittenHead). heads ++ (head_in l ++ [])) none
+    ∙ ap (λ (heads : List WrittenHead). heads ++ []) no_head
 
 -- a line ends one branch at most
 pub ends_one : (l : Line) → ending l ≤ 1

@@ -14,8 +14,9 @@ use Rattle.mc_state_io.specs.Text.Text.{Text}
 use Rattle.mc_kernel.specs.Branches.{Path, Setting, states_at}
 use Rattle.mc_kernel.specs.Certificates.{WrittenHead, IsValidCertificate, AreHeads, states_of}
 use Rattle.mc_kernel.specs.Instances.{IsInstance, Reads}
+use Rattle.mc_kernel.specs.Reading.Documents.{IsShortChain}
 use Rattle.mc_follow.specs.Report.Heads.{AreWellFormed, AreWritten, head_in, heads_of, number_at}
-use Rattle.mc_follow.specs.Report.Report.{AreHeadLines, IsCertificateReport, IsHeadLine, heads_at}
+use Rattle.mc_follow.specs.Report.Report.{AreAlarmLines, AreHeadLines, IsCertificateReport, IsChainReport, IsHeadLine, count_line, heads_at}
 
 -- a line that is no head writes none
 pub not_head : (l : Line) → ((p : PointId) (raw : RawState) → l ≢ line.Head p raw) → head_in l ≡ []
@@ -36,9 +37,9 @@ map_end : (heads : List WrittenHead) (h : WrittenHead) → map (λ (k : WrittenH
 map_end [] h = refl
 map_end (k ∷ heads) h = ap (λ (ps : List PointId). k.0 ∷ ps) (map_end heads h)
 
--- ---- the heads of a certificate
+-- ---- the heads of a document
 
-heads_more : (lines more : List Line) → heads_of (lines ++ more) ≡ heads_of lines ++ heads_of more
+pub heads_more : (lines more : List Line) → heads_of (lines ++ more) ≡ heads_of lines ++ heads_of more
 heads_more [] more = refl
 heads_more (l ∷ lines) more = ap (λ (hs : List WrittenHead). head_in l ++ hs) (heads_more lines more) ∙ sym (append_assoc (head_in l) (heads_of lines) (heads_of more))
 
@@ -58,17 +59,38 @@ no_rule flow defs g (l ∷ rules) (b ∷ bs) stuck (next, later, one, rest, e) =
     (not_head l (λ (p : PointId) (raw : RawState). λ (is : l ≡ line.Head p raw). subst (λ (k : Line). IsInstance flow defs g k b next) is one))
     ∙ no_rule flow defs g rules (next ++ bs) later rest
 
+-- nor does one of the rules, with the end
+no_more : (flow : Flow) (defs : List Def) (g : Setting) (rules : List Line) (bs stuck : List Path) → Reads flow defs g rules bs stuck
+    → heads_of (rules ++ line.End ∷ []) ≡ []
+no_more flow defs g rules bs stuck r =
+    heads_more rules (line.End ∷ []) ∙ ap (λ (hs : List WrittenHead). hs ++ []) (no_rule flow defs g rules bs stuck r)
+
+-- the heads after cuts, where no line behind them writes one
+heads_in : (cuts : List PointId) (heads : List WrittenHead) (more : List Line) → heads_of more ≡ []
+    → heads_of (map line.Cut cuts ++ (map (λ (h : WrittenHead). line.Head h.0 h.1) heads ++ more)) ≡ heads
+heads_in cuts heads more none =
+    heads_more (map line.Cut cuts) (map (λ (h : WrittenHead). line.Head h.0 h.1) heads ++ more)
+    ∙ ap (λ (hs : List WrittenHead). hs ++ heads_of (map (λ (h : WrittenHead). line.Head h.0 h.1) heads ++ more)) (no_cut cuts)
+    ∙ heads_more (map (λ (h : WrittenHead). line.Head h.0 h.1) heads) more
+    ∙ ap (λ (hs : List WrittenHead). hs ++ heads_of more) (own_heads heads)
+    ∙ ap (λ (hs : List WrittenHead). heads ++ hs) none
+    ∙ append-nil heads
+
 -- the heads of a certificate are those of its lines
 pub certificate_heads : (flow : Flow) (defs : List Def) (lines : List Line) (c : IsValidCertificate flow defs lines) → heads_of lines ≡ c.heads
 certificate_heads flow defs lines c =
-    ap heads_of c.spelled
-    ∙ heads_more (map line.Cut c.cuts) (map (λ (h : WrittenHead). line.Head h.0 h.1) c.heads ++ (c.rules ++ line.End ∷ []))
-    ∙ ap (λ (hs : List WrittenHead). hs ++ heads_of (map (λ (h : WrittenHead). line.Head h.0 h.1) c.heads ++ (c.rules ++ line.End ∷ []))) (no_cut c.cuts)
-    ∙ heads_more (map (λ (h : WrittenHead). line.Head h.0 h.1) c.heads) (c.rules ++ line.End ∷ [])
-    ∙ ap (λ (hs : List WrittenHead). hs ++ heads_of (c.rules ++ line.End ∷ [])) (own_heads c.heads)
-    ∙ ap (λ (hs : List WrittenHead). c.heads ++ hs)
-    (heads_more c.rules (line.End ∷ []) ∙ ap (λ (hs : List WrittenHead). hs ++ []) (no_rule flow defs _ c.rules _ [] c.reads))
-    ∙ append-nil c.heads
+    ap heads_of c.spelled ∙ heads_in c.cuts c.heads (c.rules ++ line.End ∷ []) (no_more flow defs _ c.rules _ [] c.reads)
+
+-- so are those of a chain
+pub chain_heads : (flow : Flow) (defs : List Def) (lines : List Line) (stuck : List Path) (c : IsShortChain flow defs lines stuck) → heads_of lines ≡ c.heads
+chain_heads flow defs lines stuck c =
+    ap heads_of c.spelled ∙ heads_in c.cuts c.heads (line.Pass ∷ (c.rules ++ line.End ∷ [])) (no_more flow defs _ c.rules _ stuck c.pass.reads)
+
+-- the report of a chain without heads
+pub headless_report : (flow : Flow) (defs : List Def) (lines : List Line) (stuck : List Path) (c : IsShortChain flow defs lines stuck) (alarms text : Text)
+    → heads_of lines ≡ [] → AreAlarmLines flow defs stuck alarms → text ≡ alarms ++ count_line (length stuck) → IsChainReport flow defs c.heads stuck text
+headless_report flow defs lines stuck c alarms text none own spelled =
+    ([], alarms, subst (λ (hs : List WrittenHead). AreHeadLines flow defs [] hs []) (sym none ∙ chain_heads flow defs lines stuck c) refl, own, spelled)
 
 -- and their states are well formed
 formed : (flow : Flow) (defs : List Def) (cuts : List PointId) (heads : List WrittenHead) → AreHeads flow defs cuts heads → AreWellFormed flow defs heads

@@ -25,7 +25,7 @@ fn number_at(points: &[PointId], point: PointId) -> u64
 }
 
 /// Adds the line of the head that a line of a document writes, if it writes one.
-fn push_written(
+pub fn push_written(
     alloc: Global,
     text: &mut Vec<u8>,
     points: &mut Vec<PointId>,

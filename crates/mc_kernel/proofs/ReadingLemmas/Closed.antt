@@ -1,5 +1,5 @@
 -- A document that has ended has no open branch, and lines that are added.
-use Rattle.std.proofs.Common.{◌≡◌, ◌+◌, ℕ, suc, List, [], ◌∷◌, ◌++◌, Bool, true, false, Some, None, length, refl, ap, sym, subst, ◌∙◌}
+use Rattle.std.proofs.Common.{◌≡◌, ◌+◌, ℕ, suc, List, [], ◌∷◌, ◌++◌, Bool, true, false, not, Some, None, length, refl, ap, sym, subst, ◌∙◌}
 use Rattle.std.specs.Prelude.{Ok, ◌&&◌, if◌then◌else◌}
 use Rattle.mc_lines.specs.declared.cert.line.Line.{Line}
 use Rattle.mc_lines.specs.declared.cert.line.Line.TheVariants as line
@@ -13,7 +13,7 @@ use Rattle.mc_rules_steps.specs.Operands.{code_at}
 use Rattle.mc_kernel.specs.Branches.{Path, roots}
 use Rattle.mc_kernel.specs.Certificates.{states_of}
 use Rattle.mc_kernel.specs.Judges.{Knowledge, is_cut, judged_line}
-use Rattle.mc_kernel.specs.Readings.{Reading, Stage, cutting, heading, ruling, finished, begun, is_cutting, is_skip, comes_after, stands_after, has_all_heads, may_head, may_pass, has_no_branch, first_branch, marked, ready, rooted, ruled, setting_of, reading_rule, reading_line, reading_lines}
+use Rattle.mc_kernel.specs.Readings.{Reading, Stage, cutting, heading, ruling, finished, begun, is_cutting, is_ruling, is_skip, comes_after, stands_after, has_all_heads, may_head, may_pass, has_no_branch, first_branch, marked, ready, rooted, ruled, setting_of, reading_rule, reading_line, reading_lines}
 use Rattle.mc_kernel.specs.Reading.Laws.{EndedIsClosed, LinesAreAdded}
 use Rattle.mc_kernel.proofs.ReadingLemmas.Kept.{some_is}
 use Rattle.mc_kernel.proofs.ReadingLemmas.Refused.{lines_split}
@@ -69,9 +69,9 @@ module _ (k : Knowledge) (well : RawState → Bool) (flow : Flow) (defs : List D
       subst IsClosed is (λ f. let clash : heading ≡ finished = f in absurd (cc clash))
   line_closed line.Pass r new closed e =
       let one = need_ok 1 (may_pass flow r r.stage) _ new e in
-      let three = need_ok 3 (is_cutting r.stage) _ new one.1 in
-      let is : ruled r (roots flow []) ≡ new = cc three.1 in
-      subst IsClosed is (still_ruling (ruled r (roots flow [])) refl)
+      let three = need_ok 3 (not (is_ruling r.stage)) _ new one.1 in
+      let is : ruled r (roots flow (states_of r.heads)) ≡ new = cc three.1 in
+      subst IsClosed is (still_ruling (ruled r (roots flow (states_of r.heads))) refl)
   line_closed line.End r new closed e =
       let one = have_ok 1 (ready flow r r.stage) _ new e in
       let three = need_ok 3 (has_no_branch one.0.branches) _ new one.2 in

@@ -14,14 +14,14 @@ use Rattle.mc_state.specs.Premises.{Judged, need, have}
 use Rattle.mc_state.proofs.Numbered.{need_ok, need_yes, have_ok}
 use Rattle.mc_state.proofs.Tests.{and_both, and_yes}
 use Rattle.mc_state.specs.declared.line.Form.{Form}
-use Rattle.mc_state.specs.declared.line.Form.TheVariants.{Certificate}
+use Rattle.mc_state.specs.declared.line.Form.TheVariants.{Certificate, Chain}
 use Rattle.mc_state.specs.declared.raw_state.RawState.{RawState}
 use Rattle.mc_state.specs.RawStates.{IsWellFormedRaw}
 use Rattle.mc_rules_steps.specs.Operands.{code_at}
 use Rattle.mc_kernel.specs.Branches.{Ascend, roots}
 use Rattle.mc_kernel.specs.Certificates.{WrittenHead, AreOrdered, states_of}
-use Rattle.mc_kernel.specs.Judges.{Knowledge, is_cut}
-use Rattle.mc_kernel.specs.Readings.{Reading, cutting, heading, behind, ruled, rooted, has_all_heads, is_skip, comes_after, stands_after, reading_cut, reading_head, reading_rule, reading_end, reading_lines}
+use Rattle.mc_kernel.specs.Judges.{Knowledge, is_chain, is_cut}
+use Rattle.mc_kernel.specs.Readings.{Reading, cutting, heading, behind, ruled, rooted, has_all_heads, is_skip, comes_after, stands_after, reading_cut, reading_head, reading_pass, reading_rule, reading_end, reading_lines}
 use Rattle.mc_kernel.proofs.ReadingLemmas.Lists.{all_end, append_none, append_end, ascend_end, ascend_after, ordered_end, ordered_after, cut_from, cut_to}
 use Rattle.mc_kernel.proofs.ReadingLemmas.Rules.{behind_ok, behind_yes, ruling_at}
 use Rattle.mc_kernel.specs.Reading.Documents.{IsJudge}
@@ -30,9 +30,9 @@ use Rattle.mc_kernel.specs.Reading.Documents.{IsJudge}
 abbrev pub cutting_at : Form → List PointId → Reading
 cutting_at form cuts = record { form = form; stage = cutting; cuts = cuts; heads = []; branches = []; stuck = [] }
 
--- a certificate of which cuts and heads are read
-abbrev pub heading_at : List PointId → List WrittenHead → Reading
-heading_at cuts heads = record { form = Certificate; stage = heading; cuts = cuts; heads = heads; branches = []; stuck = [] }
+-- and one of which cuts and heads are read
+abbrev pub heading_at : Form → List PointId → List WrittenHead → Reading
+heading_at form cuts heads = record { form = form; stage = heading; cuts = cuts; heads = heads; branches = []; stuck = [] }
 
 -- a head as a line
 abbrev pub head_line : WrittenHead → Line
@@ -151,7 +151,7 @@ module _ (k : Knowledge) (well : RawState → Bool) (flow : Flow) (defs : List D
   abbrev pub HeadFits : List PointId → WrittenHead → Type 0
   HeadFits cuts h = Contains cuts h.0 × IsWellFormedRaw defs flow.vars flow.structs.list h.1
 
-  pub record HeadsOf (cuts : List PointId) (lines : List Line) (heads : List WrittenHead) (last : Reading) : Type 0 where
+  pub record HeadsOf (form : Form) (cuts : List PointId) (lines : List Line) (heads : List WrittenHead) (last : Reading) : Type 0 where
     pub more : List WrittenHead
     pub rest : List Line
     pub spelled : lines ≡ map head_line more ++ rest
@@ -161,25 +161,25 @@ module _ (k : Knowledge) (well : RawState → Bool) (flow : Flow) (defs : List D
     pub fit : AllByRecursion (HeadFits cuts) all
     pub starts : starts_head rest ≡ false
     pub number : ℕ
-    pub read : lines_at number rest (heading_at cuts all) ≡ Ok last
+    pub read : lines_at number rest (heading_at form cuts all) ≡ Ok last
 
-  head_ok : (cuts : List PointId) (heads : List WrittenHead) (p : PointId) (raw : RawState) (r : Reading) → reading_head well flow p raw (heading_at cuts heads) ≡ Ok r
-      → HeadFits cuts (p, raw) × (stands_after heads p ≡ true) × (r ≡ heading_at cuts (heads ++ (p, raw) ∷ []))
-  head_ok cuts heads p raw r e =
+  head_ok : (form : Form) (cuts : List PointId) (heads : List WrittenHead) (p : PointId) (raw : RawState) (r : Reading) → reading_head well flow p raw (heading_at form cuts heads) ≡ Ok r
+      → HeadFits cuts (p, raw) × (stands_after heads p ≡ true) × (r ≡ heading_at form cuts (heads ++ (p, raw) ∷ []))
+  head_ok form cuts heads p raw r e =
       let three = need_ok 3 (is_cut cuts p && stands_after heads p) _ r e in
       let four = need_ok 4 (well raw) _ r three.1 in
       let both = and_both (is_cut cuts p) (stands_after heads p) three.0 in
       ((cut_from cuts p both.0, (judge.formed raw).0 four.0), both.1, cc four.1)
 
-  head_yes : (cuts : List PointId) (heads : List WrittenHead) (h : WrittenHead) → HeadFits cuts h → stands_after heads h.0 ≡ true
-      → reading_head well flow h.0 h.1 (heading_at cuts heads) ≡ Ok (heading_at cuts (heads ++ h ∷ []))
-  head_yes cuts heads h fits after =
+  head_yes : (form : Form) (cuts : List PointId) (heads : List WrittenHead) (h : WrittenHead) → HeadFits cuts h → stands_after heads h.0 ≡ true
+      → reading_head well flow h.0 h.1 (heading_at form cuts heads) ≡ Ok (heading_at form cuts (heads ++ h ∷ []))
+  head_yes form cuts heads h fits after =
       need_yes 3 (is_cut cuts h.0 && stands_after heads h.0) _ (and_yes (is_cut cuts h.0) (stands_after heads h.0) (cut_to cuts h.0 fits.0) after)
       ∙ need_yes 4 (well h.1) _ ((judge.formed h.1).1 fits.1)
 
-  no_heads : (cuts : List PointId) (n : ℕ) (lines : List Line) (heads : List WrittenHead) (last : Reading) → AreOrdered heads → AllByRecursion (HeadFits cuts) heads
-      → starts_head lines ≡ false → lines_at n lines (heading_at cuts heads) ≡ Ok last → HeadsOf cuts lines heads last
-  no_heads cuts n lines heads last ordered fit starts e = record {
+  no_heads : (form : Form) (cuts : List PointId) (n : ℕ) (lines : List Line) (heads : List WrittenHead) (last : Reading) → AreOrdered heads → AllByRecursion (HeadFits cuts) heads
+      → starts_head lines ≡ false → lines_at n lines (heading_at form cuts heads) ≡ Ok last → HeadsOf form cuts lines heads last
+  no_heads form cuts n lines heads last ordered fit starts e = record {
     more = [];
     rest = lines;
     spelled = refl;
@@ -192,9 +192,9 @@ module _ (k : Knowledge) (well : RawState → Bool) (flow : Flow) (defs : List D
     read = e;
   }
 
-  then_head : (cuts : List PointId) (h : WrittenHead) (lines : List Line) (heads : List WrittenHead) (last : Reading)
-      → HeadsOf cuts lines (heads ++ h ∷ []) last → HeadsOf cuts (head_line h ∷ lines) heads last
-  then_head cuts h lines heads last c = record {
+  then_head : (form : Form) (cuts : List PointId) (h : WrittenHead) (lines : List Line) (heads : List WrittenHead) (last : Reading)
+      → HeadsOf form cuts lines (heads ++ h ∷ []) last → HeadsOf form cuts (head_line h ∷ lines) heads last
+  then_head form cuts h lines heads last c = record {
     more = h ∷ c.more;
     rest = c.rest;
     spelled = ap (λ (ls : List Line). head_line h ∷ ls) c.spelled;
@@ -207,54 +207,61 @@ module _ (k : Knowledge) (well : RawState → Bool) (flow : Flow) (defs : List D
     read = c.read;
   }
 
-  pub heads_from : (cuts : List PointId) (n : ℕ) (lines : List Line) (heads : List WrittenHead) (last : Reading) → AreOrdered heads → AllByRecursion (HeadFits cuts) heads
-      → lines_at n lines (heading_at cuts heads) ≡ Ok last → HeadsOf cuts lines heads last
-  heads_from cuts n [] heads last ordered fit e = no_heads cuts n [] heads last ordered fit refl e
-  heads_from cuts n (line.Head p raw ∷ lines) heads last ordered fit e =
-      let read = behind_ok n (reading_head well flow p raw (heading_at cuts heads)) (lines_at (suc n) lines) last e in
-      let ok = head_ok cuts heads p raw read.0 read.1 in
-      let on : lines_at (suc n) lines (heading_at cuts (heads ++ (p, raw) ∷ [])) ≡ Ok last = subst (λ (r : Reading). lines_at (suc n) lines r ≡ Ok last) ok.2 read.2 in
-      then_head cuts (p, raw) lines heads last
-      (heads_from cuts (suc n) lines (heads ++ (p, raw) ∷ []) last (ordered_end heads (p, raw) ordered ok.1) (all_end (HeadFits cuts) heads (p, raw) fit ok.0) on)
-  heads_from cuts n (l ∷ lines) heads last ordered fit e = no_heads cuts n (l ∷ lines) heads last ordered fit refl e
+  pub heads_from : (form : Form) (cuts : List PointId) (n : ℕ) (lines : List Line) (heads : List WrittenHead) (last : Reading) → AreOrdered heads → AllByRecursion (HeadFits cuts) heads
+      → lines_at n lines (heading_at form cuts heads) ≡ Ok last → HeadsOf form cuts lines heads last
+  heads_from form cuts n [] heads last ordered fit e = no_heads form cuts n [] heads last ordered fit refl e
+  heads_from form cuts n (line.Head p raw ∷ lines) heads last ordered fit e =
+      let read = behind_ok n (reading_head well flow p raw (heading_at form cuts heads)) (lines_at (suc n) lines) last e in
+      let ok = head_ok form cuts heads p raw read.0 read.1 in
+      let on : lines_at (suc n) lines (heading_at form cuts (heads ++ (p, raw) ∷ [])) ≡ Ok last = subst (λ (r : Reading). lines_at (suc n) lines r ≡ Ok last) ok.2 read.2 in
+      then_head form cuts (p, raw) lines heads last
+      (heads_from form cuts (suc n) lines (heads ++ (p, raw) ∷ []) last (ordered_end heads (p, raw) ordered ok.1) (all_end (HeadFits cuts) heads (p, raw) fit ok.0) on)
+  heads_from form cuts n (l ∷ lines) heads last ordered fit e = no_heads form cuts n (l ∷ lines) heads last ordered fit refl e
 
-  pub heads_to : (cuts : List PointId) (n : ℕ) (heads more : List WrittenHead) (rest : List Line) → AreOrdered (heads ++ more) → AllByRecursion (HeadFits cuts) more
-      → (m : ℕ) × (lines_at n (map head_line more ++ rest) (heading_at cuts heads) ≡ lines_at m rest (heading_at cuts (heads ++ more)))
-  heads_to cuts n heads [] rest ordered fit = (n, ap (λ (hs : List WrittenHead). lines_at n rest (heading_at cuts hs)) (sym (append_none heads)))
-  heads_to cuts n heads (h ∷ more) rest ordered fit =
-      let yes = head_yes cuts heads h fit.0 (ordered_after heads h more ordered) in
-      let on = heads_to cuts (suc n) (heads ++ h ∷ []) more rest (subst AreOrdered (sym (append_end heads h more)) ordered) fit.1 in (
+  pub heads_to : (form : Form) (cuts : List PointId) (n : ℕ) (heads more : List WrittenHead) (rest : List Line) → AreOrdered (heads ++ more) → AllByRecursion (HeadFits cuts) more
+      → (m : ℕ) × (lines_at n (map head_line more ++ rest) (heading_at form cuts heads) ≡ lines_at m rest (heading_at form cuts (heads ++ more)))
+  heads_to form cuts n heads [] rest ordered fit = (n, ap (λ (hs : List WrittenHead). lines_at n rest (heading_at form cuts hs)) (sym (append_none heads)))
+  heads_to form cuts n heads (h ∷ more) rest ordered fit =
+      let yes = head_yes form cuts heads h fit.0 (ordered_after heads h more ordered) in
+      let on = heads_to form cuts (suc n) (heads ++ h ∷ []) more rest (subst AreOrdered (sym (append_end heads h more)) ordered) fit.1 in (
         on.0,
-        behind_yes n (reading_head well flow h.0 h.1 (heading_at cuts heads)) (lines_at (suc n) (map head_line more ++ rest)) (heading_at cuts (heads ++ h ∷ [])) yes
-            ∙ on.1 ∙ ap (λ (hs : List WrittenHead). lines_at on.0 rest (heading_at cuts hs)) (append_end heads h more),
+        behind_yes n (reading_head well flow h.0 h.1 (heading_at form cuts heads)) (lines_at (suc n) (map head_line more ++ rest)) (heading_at form cuts (heads ++ h ∷ [])) yes
+            ∙ on.1 ∙ ap (λ (hs : List WrittenHead). lines_at on.0 rest (heading_at form cuts hs)) (append_end heads h more),
       )
 
   -- ---- from one stage to the next
 
-  -- after the last cut a certificate reads as after the last head
-  pub from_cuts : (cuts : List PointId) (n : ℕ) (lines : List Line) (l : Line) → has_all_heads flow cuts ≡ true → starts_cut (l ∷ lines) ≡ false
-      → lines_at n (l ∷ lines) (cutting_at Certificate cuts) ≡ lines_at n (l ∷ lines) (heading_at cuts [])
-  from_cuts cuts n lines (line.Header version form) full starts = refl
-  from_cuts cuts n lines (line.Cut p) full starts = absurd (cc starts)
-  from_cuts cuts n lines (line.Head p raw) full starts =
-      ap (λ (b : Bool). behind n (need 1 b (reading_head well flow p raw (heading_at cuts []))) (lines_at (suc n) lines)) full
-  from_cuts cuts n lines line.Pass full starts = refl
-  from_cuts cuts n lines line.End full starts = refl
-  from_cuts cuts n lines l full starts = refl
+  -- rule lines begin after cuts as after no heads
+  rooted_same : (form : Form) (cuts : List PointId) (n : ℕ) (lines : List Line) (f : Reading → Judged Reading)
+      → behind n (have 1 (rooted flow (cutting_at form cuts) form) f) (lines_at (suc n) lines)
+      ≡ behind n (have 1 (rooted flow (heading_at form cuts []) form) f) (lines_at (suc n) lines)
+  rooted_same Certificate cuts n lines f = refl
+  rooted_same Chain cuts n lines f = refl
+
+  -- after the last cut a document reads as after the last head
+  pub from_cuts : (form : Form) (cuts : List PointId) (n : ℕ) (lines : List Line) (l : Line) → has_all_heads flow cuts ≡ true → starts_cut (l ∷ lines) ≡ false
+      → lines_at n (l ∷ lines) (cutting_at form cuts) ≡ lines_at n (l ∷ lines) (heading_at form cuts [])
+  from_cuts form cuts n lines (line.Header version other) full starts = refl
+  from_cuts form cuts n lines (line.Cut p) full starts = absurd (cc starts)
+  from_cuts form cuts n lines (line.Head p raw) full starts =
+      ap (λ (b : Bool). behind n (need 1 b (reading_head well flow p raw (heading_at form cuts []))) (lines_at (suc n) lines)) full
+  from_cuts form cuts n lines line.Pass full starts = refl
+  from_cuts form cuts n lines line.End full starts = rooted_same form cuts n lines _
+  from_cuts form cuts n lines l full starts = rooted_same form cuts n lines _
 
   -- a certificate whose roots are open
   abbrev pub rooted_at : List PointId → List WrittenHead → Reading
   rooted_at cuts heads = ruling_at Certificate cuts heads (roots flow (states_of heads)) []
 
-  -- and after the last head as where the roots are open
+  -- and a certificate after the last head as where the roots are open
   pub from_heads : (cuts : List PointId) (heads : List WrittenHead) (n : ℕ) (lines : List Line) (l : Line) → has_all_heads flow cuts ≡ true → starts_head (l ∷ lines) ≡ false
-      → lines_at n (l ∷ lines) (heading_at cuts heads) ≡ lines_at n (l ∷ lines) (rooted_at cuts heads)
+      → lines_at n (l ∷ lines) (heading_at Certificate cuts heads) ≡ lines_at n (l ∷ lines) (rooted_at cuts heads)
   from_heads cuts heads n lines l full starts = at l starts
     where
       rule : (f : Reading → Judged Reading) → behind n (have 1 (if has_all_heads flow cuts then Some (rooted_at cuts heads) else None) f) (lines_at (suc n) lines) ≡ behind n (f (rooted_at cuts heads)) (lines_at (suc n) lines)
       rule f = ap (λ (b : Bool). behind n (have 1 (if b then Some (rooted_at cuts heads) else None) f) (lines_at (suc n) lines)) full
 
-      at : (l : Line) → starts_head (l ∷ lines) ≡ false → lines_at n (l ∷ lines) (heading_at cuts heads) ≡ lines_at n (l ∷ lines) (rooted_at cuts heads)
+      at : (l : Line) → starts_head (l ∷ lines) ≡ false → lines_at n (l ∷ lines) (heading_at Certificate cuts heads) ≡ lines_at n (l ∷ lines) (rooted_at cuts heads)
       at (line.Header version form) starts = refl
       at (line.Cut p) starts = refl
       at (line.Head p raw) starts = absurd (cc starts)
@@ -262,24 +269,28 @@ module _ (k : Knowledge) (well : RawState → Bool) (flow : Flow) (defs : List D
       at line.End starts = rule _
       at l starts = rule _
 
-  root_is : (cuts : List PointId) (f : Reading → Judged Reading) (r : Reading)
-      → have 1 (rooted flow (cutting_at Certificate cuts) Certificate) f ≡ Ok r → has_all_heads flow cuts ≡ true
-  root_is cuts f r e =
+  root_is : (form : Form) (cuts : List PointId) (f : Reading → Judged Reading) (r : Reading)
+      → have 1 (rooted flow (cutting_at form cuts) form) f ≡ Ok r → has_all_heads flow cuts ≡ true
+  root_is Certificate cuts f r e =
       let found = have_ok 1 (rooted flow (cutting_at Certificate cuts) Certificate) f r e in
       root_full (has_all_heads flow cuts) (ruled (cutting_at Certificate cuts) (roots flow [])) found.0 found.1
+  root_is Chain cuts f r e = absurd (cc e)
 
-  -- where a certificate goes on after its cuts, each loop head is one
-  pub full_of : (cuts : List PointId) (n : ℕ) (lines : List Line) (l : Line) (last : Reading) → starts_cut (l ∷ lines) ≡ false
-      → lines_at n (l ∷ lines) (cutting_at Certificate cuts) ≡ Ok last → has_all_heads flow cuts ≡ true
-  full_of cuts n lines (line.Header version form) last starts e = absurd (cc e)
-  full_of cuts n lines (line.Cut p) last starts e = absurd (cc starts)
-  full_of cuts n lines (line.Head p raw) last starts e =
-      let read = behind_ok n (reading_head well flow p raw (cutting_at Certificate cuts)) (lines_at (suc n) lines) last e in
+  -- where a document goes on after its cuts, each loop head is one
+  pub full_of : (form : Form) (cuts : List PointId) (n : ℕ) (lines : List Line) (l : Line) (last : Reading) → starts_cut (l ∷ lines) ≡ false
+      → lines_at n (l ∷ lines) (cutting_at form cuts) ≡ Ok last → has_all_heads flow cuts ≡ true
+  full_of form cuts n lines (line.Header version other) last starts e = absurd (cc e)
+  full_of form cuts n lines (line.Cut p) last starts e = absurd (cc starts)
+  full_of form cuts n lines (line.Head p raw) last starts e =
+      let read = behind_ok n (reading_head well flow p raw (cutting_at form cuts)) (lines_at (suc n) lines) last e in
       (need_ok 1 (has_all_heads flow cuts) _ read.0 read.1).0
-  full_of cuts n lines line.Pass last starts e = absurd (cc e)
-  full_of cuts n lines line.End last starts e =
-      let read = behind_ok n (reading_end flow (cutting_at Certificate cuts)) (lines_at (suc n) lines) last e in
-      root_is cuts _ read.0 read.1
-  full_of cuts n lines l last starts e =
-      let read = behind_ok n (reading_rule k flow defs l (cutting_at Certificate cuts)) (lines_at (suc n) lines) last e in
-      root_is cuts _ read.0 read.1
+  full_of form cuts n lines line.Pass last starts e =
+      let read = behind_ok n (reading_pass flow (cutting_at form cuts)) (lines_at (suc n) lines) last e in
+      let one = need_ok 1 (is_chain form && has_all_heads flow cuts) _ read.0 read.1 in
+      (and_both (is_chain form) (has_all_heads flow cuts) one.0).1
+  full_of form cuts n lines line.End last starts e =
+      let read = behind_ok n (reading_end flow (cutting_at form cuts)) (lines_at (suc n) lines) last e in
+      root_is form cuts _ read.0 read.1
+  full_of form cuts n lines l last starts e =
+      let read = behind_ok n (reading_rule k flow defs l (cutting_at form cuts)) (lines_at (suc n) lines) last e in
+      root_is form cuts _ read.0 read.1

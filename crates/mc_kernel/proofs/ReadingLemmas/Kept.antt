@@ -1,5 +1,5 @@
 -- What stays so, line by line.
-use Rattle.std.proofs.Common.{◌≡◌, List, [], ◌∷◌, ◌++◌, Bool, true, false, Option, Some, None, ap, sym, subst, ◌∙◌}
+use Rattle.std.proofs.Common.{◌≡◌, List, [], ◌∷◌, ◌++◌, Bool, true, false, not, Option, Some, None, ap, sym, subst, ◌∙◌}
 use Rattle.std.specs.Prelude.{Ok, ◌&&◌, if◌then◌else◌}
 use Rattle.std.specs.List.{AllByRecursion}
 use Rattle.mc_lines.specs.declared.cert.line.Line.{Line}
@@ -18,7 +18,7 @@ use Rattle.mc_kernel.specs.Branches.{Path, roots}
 use Rattle.mc_kernel.specs.Certificates.{WrittenHead, states_of}
 use Rattle.mc_kernel.specs.JudgedLaws.{LinesAreJudged}
 use Rattle.mc_kernel.specs.Judges.{Knowledge, is_cut, judged_line}
-use Rattle.mc_kernel.specs.Readings.{Reading, Stage, cutting, heading, ruling, finished, setting_of, is_cutting, has_all_heads, ready, rooted, ruled, is_skip, comes_after, stands_after, may_head, may_pass, has_no_branch, first_branch, marked, reading_rule, reading_line}
+use Rattle.mc_kernel.specs.Readings.{Reading, Stage, cutting, heading, ruling, finished, setting_of, is_cutting, is_ruling, has_all_heads, ready, rooted, ruled, is_skip, comes_after, stands_after, may_head, may_pass, has_no_branch, first_branch, marked, reading_rule, reading_line}
 use Rattle.mc_kernel.specs.Reading.Documents.{IsMade, IsJudge, IsAskedHere, IsKept, IsReadAt}
 use Rattle.mc_kernel.specs.Reading.Laws.{BegunIsKept, LinesKeep, RulesAreRead}
 use Rattle.mc_kernel.proofs.ReadingLemmas.Lists.{all_end, all_join}
@@ -67,11 +67,11 @@ module _ (right : Right) (k : Knowledge) (well : RawState → Bool) (flow : Flow
   abbrev Formed : WrittenHead → Type 0
   Formed h = IsWellFormedRaw defs flow.vars flow.structs.list h.1
 
-  ruled_kept : (r : Reading) (heads : List WrittenHead) → IsKept flow defs r → AllByRecursion Formed heads → IsKept flow defs (ruled r (roots flow (states_of heads)))
-  ruled_kept r heads kept fit = record { heads = kept.heads; branches = roots_made right k well flow defs valid judge heads fit }
+  ruled_kept : (r : Reading) → IsKept flow defs r → IsKept flow defs (ruled r (roots flow (states_of r.heads)))
+  ruled_kept r kept = record { heads = kept.heads; branches = roots_made right k well flow defs valid judge r.heads kept.heads }
 
   rooted_kept : (r t : Reading) (full : Bool) → IsKept flow defs r → (if full then Some (ruled r (roots flow (states_of r.heads))) else None) ≡ Some t → IsKept flow defs t
-  rooted_kept r t true kept e = subst (IsKept flow defs) (some_is (ruled r (roots flow (states_of r.heads))) t e) (ruled_kept r r.heads kept kept.heads)
+  rooted_kept r t true kept e = subst (IsKept flow defs) (some_is (ruled r (roots flow (states_of r.heads))) t e) (ruled_kept r kept)
   rooted_kept r t false kept e = absurd (cc e)
 
   rooted_in : (r t : Reading) (form : Form) → IsKept flow defs r → rooted flow r form ≡ Some t → IsKept flow defs t
@@ -118,9 +118,9 @@ module _ (right : Right) (k : Knowledge) (well : RawState → Bool) (flow : Flow
       subst (IsKept flow defs) is (record { heads = all_end Formed r.heads (p, raw) kept.heads ((judge.formed raw).0 four.0); branches = kept.branches })
   line_kept line.Pass r new kept e =
       let one = need_ok 1 (may_pass flow r r.stage) _ new e in
-      let three = need_ok 3 (is_cutting r.stage) _ new one.1 in
-      let is : ruled r (roots flow []) ≡ new = cc three.1 in
-      subst (IsKept flow defs) is (ruled_kept r [] kept tt)
+      let three = need_ok 3 (not (is_ruling r.stage)) _ new one.1 in
+      let is : ruled r (roots flow (states_of r.heads)) ≡ new = cc three.1 in
+      subst (IsKept flow defs) is (ruled_kept r kept)
   line_kept line.End r new kept e =
       let one = have_ok 1 (ready flow r r.stage) _ new e in
       let three = need_ok 3 (has_no_branch one.0.branches) _ new one.2 in

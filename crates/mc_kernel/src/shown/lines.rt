@@ -1,4 +1,4 @@
-// Lines that stand out of place.
+// Lines that stand out of place, and a pass with a head before it.
 ghost use Rattle.std.specs.Prelude.{[]};
 ghost use Rattle.mc_state.specs.declared.line.InstrRule.TheVariants.{S1};
 ghost use Rattle.mc_lines.specs.declared.cert.line.Line.TheVariants.{Header, Cut, Head, Pass, End, Step, C1, C2, C3};
@@ -6,22 +6,27 @@ ghost use Rattle.mc_state.specs.declared.line.Form.TheVariants.{Certificate, Cha
 ghost use Rattle.mc_state.specs.declared.line.Version.TheVariants.{One};
 ghost use Rattle.mc_kernel.specs.Examples.{at, loop_state};
 ghost use Rattle.mc_kernel.specs.Readings.{begun};
-ghost use Rattle.mc_kernel.specs.Shown.Lines.{Refuses, one_cut, one_head, one_pass, closed_pass, one_end};
+ghost use Rattle.mc_kernel.specs.Shown.Lines.{Becomes, Refuses, one_cut, one_head, one_pass, closed_pass, one_end};
 
-/// A cut at an input, at no point, twice, and after a head; a head where the loop's head is no cut, at no cut,
-/// before the last head, and in a chain; and a header.
+/// A cut at an input, at no point, twice, and after a head; a head where the loop's head is no cut, in a certificate
+/// and in a chain, at no cut, before the last head, and after the pass of a chain; and a header.
 pub fn cuts_and_heads_out_of_place()
     ensures input { Refuses (begun Certificate) (Cut (at 2)) 3 }
     ensures no_point { Refuses (begun Certificate) (Cut (at 9)) 3 }
     ensures twice { Refuses (one_cut Certificate) (Cut (at 1)) 4 }
     ensures before { Refuses (one_cut Certificate) (Cut (at 0)) 4 }
-    ensures late { Refuses one_head (Cut (at 5)) 1 }
+    ensures late { Refuses (one_head Certificate) (Cut (at 5)) 1 }
     ensures uncut { Refuses (begun Certificate) (Head (at 1) loop_state) 1 }
+    ensures uncut_chain { Refuses (begun Chain) (Head (at 1) loop_state) 1 }
     ensures no_cut { Refuses (one_cut Certificate) (Head (at 5) loop_state) 3 }
-    ensures order { Refuses one_head (Head (at 1) loop_state) 3 }
-    ensures in_chain { Refuses (one_cut Chain) (Head (at 1) loop_state) 1 }
+    ensures order { Refuses (one_head Chain) (Head (at 1) loop_state) 3 }
     ensures behind_rules { Refuses one_pass (Head (at 1) loop_state) 1 }
     ensures header { Refuses (one_cut Certificate) (Header One Certificate) 1 }
+{}
+
+/// The pass of a chain with a head opens the entry and the head.
+pub fn passes_open_heads()
+    ensures { Becomes (one_head Chain) Pass one_pass }
 {}
 
 /// A rule where the loop's head is no cut, before a pass, and where no branch is open; a pass in a certificate, and
@@ -30,7 +35,7 @@ pub fn cuts_and_heads_out_of_place()
 /// end.
 pub fn rules_out_of_place()
     ensures uncut { Refuses (begun Certificate) (Step S1) 1 }
-    ensures no_pass { Refuses (one_cut Chain) (Step S1) 1 }
+    ensures no_pass { Refuses (one_head Chain) (Step S1) 1 }
     ensures no_branch { Refuses closed_pass C1 1 }
     ensures in_certificate { Refuses (one_cut Certificate) Pass 1 }
     ensures again { Refuses closed_pass Pass 3 }

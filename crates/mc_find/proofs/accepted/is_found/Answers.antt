@@ -1,8 +1,7 @@
-use Rattle.std.proofs.Common.{◌≡◌, ◌∙◌, ℕ, List, Bool, true, false, subst, sym}
+use Rattle.std.proofs.Common.{◌≡◌, ◌∙◌, Bool, true, false, sym}
 use Rattle.std.specs.Prelude.{◌↔◌}
 use Rattle.std.proofs.lemmas.Result.{IfOk-weaker}
-use Rattle.mc_base.specs.declared.ids.PointId.{PointId}
-use Rattle.mc_document.specs.Places.{IsCertificateInPlace, cuts_of}
+use Rattle.mc_document.specs.Places.{IsCertificateInPlace}
 use Rattle.mc_find.specs.Analysis.Findings.{IsFound}
 use Rattle.mc_find.proofs.AcceptedLemmas.{all_checked}
 use Rattle.mc_find.proofs.accepted.is_found.Goals as goal
