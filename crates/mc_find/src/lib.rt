@@ -15,5 +15,4 @@ mod rank;
 pub mod walks;
 
 pub use crate::walks::Limits;
-pub use alarming::find_alarms;
 pub use finding::find;
