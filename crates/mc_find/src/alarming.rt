@@ -1,24 +1,231 @@
-// The search for alarms.
-ghost use Rattle.std.specs.Prelude.{IfOk, IfSome};
+// The search for alarms of a program with loops.
+ghost use Rattle.std.specs.Prelude.{IfOk, IfSome, List};
+ghost use Rattle.mc_flow.specs.declared.defs.rules.Def.{Def};
+ghost use Rattle.mc_flow.specs.declared.graph.Flow.{Flow as Graph};
 ghost use Rattle.mc_flow.specs.Valid.{IsValid};
 ghost use Rattle.mc_find.specs.Analysis.Findings.{IsProposed};
 
-use crate::Limits;
+use crate::accepted::{is_found, reported};
 use crate::analysis::Proposed;
+use crate::prepared::Prepared;
+use crate::rank::Rank;
+use crate::walks::{Aim, Attempt, Blocked, Limits, Rung, Step, Style, Task, first_rung};
 use mc_base::NoMemory;
 use mc_flow::{Defs, Flow};
+use mc_lines::cert::{Form, Line};
 use std::alloc::Global;
 
-/// A chain with alarms, or a certificate after all, where one is found within the limits. None says only that nothing was
-/// found.
-pub fn find_alarms(
-    _alloc: Global,
-    _flow: &Flow,
-    _defs: &Defs,
-    _limits: Limits,
-) -> Result<Option<Proposed>, NoMemory>
-    requires { IsValid _flow.now _defs.now }
-    ensures { IfOk result (λ found. IfSome found (λ proposed. IsProposed _flow.now _defs.now proposed)) }
+/// How many lines the first walk may take.
+const FIRST: u64 = 2_000;
+
+/// How many attempts may take all their lines.
+const WHOLE: u64 = 4;
+
+/// How an attempt folds that goes so far and has so many heads at a cut, which lose what arrivals lack.
+const fn losing(step: Step, heads: usize) -> Style {
+    Style {
+        before: 0,
+        room: 0,
+        rung: Rung { step, loses: true },
+        heads,
+    }
+}
+
+/// How an attempt folds that climbs the ladder, and keeps blocks so many fields before live variables' nodes.
+const fn climbing(before: usize) -> Style {
+    Style {
+        before,
+        room: 0,
+        rung: first_rung(Step::Plain),
+        heads: 4,
+    }
+}
+
+/// How the attempts fold, in their order.
+const fn styles() -> [Style; 8] {
+    [
+        losing(Step::Plain, 8),
+        losing(Step::Coarse, 8),
+        climbing(0),
+        climbing(1),
+        losing(Step::Plain, 4),
+        losing(Step::Coarse, 4),
+        losing(Step::Coarse, 2),
+        losing(Step::Coarse, 1),
+    ]
+}
+
+/// The faults that are met before anything is folded.
+fn first_faults(alloc: Global, task: Task<'_>) -> Result<Vec<Blocked>, NoMemory>
+    requires { IsValid task.sight.flow.now task.sight.defs.now }
 {
-    Ok(None)
+    let limits = Limits {
+        lines: FIRST,
+        keys: usize::MAX,
+    };
+    let style = Style {
+        before: 0,
+        room: 0,
+        rung: first_rung(Step::Plain),
+        heads: 0,
+    };
+    let mut attempt = Attempt::new(alloc, task, Aim::Faults, style, limits)?;
+    attempt.run()?;
+    let (places, _) = attempt.blocked()?;
+    Ok(places)
+}
+
+/// What is proposed, and how good it is.
+#[derive(Drop)]
+struct Offer {
+    proposed: Proposed,
+    rank: Rank,
+}
+
+/// Whether a rank is better than that of what was found before.
+fn is_better(rank: &Rank, best: &Option<Offer>) -> bool {
+    match best {
+        Some(found) => rank.is_better(&found.rank),
+        None => true,
+    }
+}
+
+/// The lines of an attempt without alarms as a certificate, where they are one.
+fn certificate(
+    alloc: Global,
+    task: Task<'_>,
+    attempt: Attempt<'_>,
+) -> Result<Option<Proposed>, NoMemory>
+    requires { IsValid task.sight.flow.now task.sight.defs.now }
+    ensures { IfOk result (λ found. IfSome found (λ proposed. IsProposed task.entry.sight.flow.now task.entry.sight.defs.now proposed)) }
+{
+    let lines = attempt.document(Form::Certificate)?;
+    if is_found(alloc, task.sight.flow, task.sight.defs, lines.as_slice())? {
+        Ok(Some(Proposed::Certificate(lines)))
+    } else {
+        Ok(None)
+    }
+}
+
+/// The lines of an attempt as a chain, where they are one that is accepted.
+fn chain(alloc: Global, task: Task<'_>, attempt: Attempt<'_>) -> Result<Option<Proposed>, NoMemory>
+    requires { IsValid task.sight.flow.now task.sight.defs.now }
+    ensures { IfOk result (λ found. IfSome found (λ proposed. IsProposed task.entry.sight.flow.now task.entry.sight.defs.now proposed)) }
+{
+    let lines = attempt.document(Form::Chain)?;
+    match reported(alloc, task.sight.flow, task.sight.defs, lines.as_slice())? {
+        Some(report) => Ok(Some(Proposed::Chain(lines, report))),
+        None => Ok(None),
+    }
+}
+
+/// What an attempt proposes that is whole.
+fn offered(
+    alloc: Global,
+    task: Task<'_>,
+    attempt: Attempt<'_>,
+    rank: Rank,
+) -> Result<Option<Proposed>, NoMemory>
+    requires { IsValid task.sight.flow.now task.sight.defs.now }
+    ensures { IfOk result (λ found. IfSome found (λ proposed. IsProposed task.entry.sight.flow.now task.entry.sight.defs.now proposed)) }
+{
+    if rank.alarms == 0 {
+        certificate(alloc, task, attempt)
+    } else {
+        chain(alloc, task, attempt)
+    }
+}
+
+/// One attempt, for which at most so many lines are left; what it takes is left no more. What it proposes, where that is
+/// better than the best before.
+fn try_one(
+    alloc: Global,
+    task: Task<'_>,
+    style: Style,
+    limits: Limits,
+    faults: &[Blocked],
+    best: &Option<Offer>,
+    left: &mut u64,
+) -> Result<Option<Offer>, NoMemory>
+    requires { IsValid task.sight.flow.now task.sight.defs.now }
+    ensures { IfOk result (λ found. IfSome found (λ offer. IsProposed task.entry.sight.flow.now task.entry.sight.defs.now offer.proposed)) }
+{
+    let own = Limits {
+        lines: limits.lines.min(*left),
+        keys: limits.keys,
+    };
+    let mut attempt = Attempt::new(alloc, task, Aim::Chain, style, own)?;
+    let is_whole = attempt.run()?;
+    *left = left.saturating_sub(attempt.taken);
+    if !is_whole {
+        return Ok(None);
+    }
+    attempt.keep_reached()?;
+    let rank = Rank::of(&attempt, faults)?;
+    if !is_better(&rank, best) {
+        return Ok(None);
+    }
+    match offered(alloc, task, attempt, rank)? {
+        Some(proposed) => Ok(Some(Offer { proposed, rank })),
+        None => Ok(None),
+    }
+}
+
+/// Whether nothing better is looked for: no fault is met before anything is folded, or they are told as they are met.
+fn is_settled(best: &Option<Offer>, faults: &[Blocked]) -> bool {
+    match best {
+        Some(found) => found.rank.is_best() || faults.is_empty(),
+        None => false,
+    }
+}
+
+/// What was found best.
+fn best_of(best: Option<Offer>) -> Option<Proposed>
+    ensures { (flow : Graph) (defs : List Def) → IfSome best (λ offer. IsProposed flow defs offer.proposed)
+        → IfSome result (λ proposed. IsProposed flow defs proposed) }
+{
+    match best {
+        Some(found) => Some(found.proposed),
+        None => None,
+    }
+}
+
+/// The attempts one after the other, where these faults are met before anything is folded.
+fn try_all(
+    alloc: Global,
+    task: Task<'_>,
+    limits: Limits,
+    faults: &[Blocked],
+) -> Result<Option<Proposed>, NoMemory>
+    requires { IsValid task.sight.flow.now task.sight.defs.now }
+    ensures { IfOk result (λ found. IfSome found (λ proposed. IsProposed task.entry.sight.flow.now task.entry.sight.defs.now proposed)) }
+{
+    let mut left = limits.lines.saturating_mul(WHOLE);
+    let mut best: Option<Offer> = None;
+    for style in &styles() {
+        if left > 0 && !is_settled(&best, faults) {
+            if let Some(found) = try_one(alloc, task, *style, limits, faults, &best, &mut left)? {
+                best = Some(found);
+            }
+        }
+    }
+    Ok(best_of(best))
+}
+
+/// A chain of one pass that tells where a program may fail, or a certificate after all, where one is found within the limits
+/// of each attempt: of several chains the one that tells best what is met before anything is folded. None says only that
+/// nothing was found.
+pub fn find_alarms(
+    alloc: Global,
+    flow: &Flow,
+    defs: &Defs,
+    limits: Limits,
+) -> Result<Option<Proposed>, NoMemory>
+    requires { IsValid flow.now defs.now }
+    ensures { IfOk result (λ found. IfSome found (λ proposed. IsProposed flow.now defs.now proposed)) }
+{
+    let prepared = Prepared::of(alloc, flow, defs)?;
+    let task = prepared.task(flow, defs);
+    let faults = first_faults(alloc, task)?;
+    try_all(alloc, task, limits, faults.as_slice())
 }

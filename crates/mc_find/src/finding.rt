@@ -4,14 +4,9 @@ ghost use Rattle.mc_flow.specs.Valid.{IsValid};
 ghost use Rattle.mc_find.specs.Analysis.Findings.{IsFound};
 
 use crate::accepted::is_found;
-use crate::cuts::loop_heads;
-use crate::walks::{Attempt, Limits, Outcome, Step, Style, Task};
+use crate::prepared::Prepared;
+use crate::walks::{Aim, Attempt, Limits, Outcome, Step, Style, Task, first_rung};
 use mc_base::NoMemory;
-use mc_find_view::live::{
-    StoredFields, asks_for_empty, asserted_shapes, constant_variables, live_variables,
-    wanted_predicates,
-};
-use mc_find_view::sight::Sight;
 use mc_flow::{Defs, Flow};
 use mc_lines::cert::Line;
 use std::alloc::Global;
@@ -26,7 +21,12 @@ struct Plan {
 /// A plan for an attempt.
 const fn planned(before: usize, room: i64, step: Step, keys: usize) -> Plan {
     Plan {
-        style: Style { before, room, step },
+        style: Style {
+            before,
+            room,
+            rung: first_rung(step),
+            heads: 0,
+        },
         keys,
     }
 }
@@ -66,7 +66,7 @@ fn try_one(
         lines: lines.min(*left),
         keys: plan.keys,
     };
-    let attempt = Attempt::new(alloc, task, plan.style, limits)?;
+    let attempt = Attempt::new(alloc, task, Aim::Certificate, plan.style, limits)?;
     let taken = match attempt.make()? {
         Outcome::Found(lines) => {
             if is_found(alloc, task.sight.flow, task.sight.defs, lines.as_slice())? {
@@ -112,25 +112,6 @@ pub fn find(
     requires { IsValid flow.now defs.now }
     ensures { IfOk result (λ found. IfSome found (λ lines. IsFound flow.now defs.now lines.items)) }
 {
-    let live = live_variables(alloc, flow)?;
-    let stored = StoredFields::of(alloc, flow)?;
-    let constants = constant_variables(alloc, flow)?;
-    let wanted = wanted_predicates(alloc, flow, defs)?;
-    let asserted = asserted_shapes(alloc, flow)?;
-    let cuts = loop_heads(alloc, flow)?;
-    let sight = Sight {
-        flow,
-        defs,
-        live: &live,
-        stored: &stored,
-        constants: constants.as_slice(),
-        all: asks_for_empty(flow),
-    };
-    let task = Task {
-        sight,
-        wanted: wanted.as_slice(),
-        asserted: asserted.as_slice(),
-        cuts: cuts.as_slice(),
-    };
-    try_all(alloc, task, limits)
+    let prepared = Prepared::of(alloc, flow, defs)?;
+    try_all(alloc, prepared.task(flow, defs), limits)
 }

@@ -1,5 +1,5 @@
-//! Finds a certificate of a program, loops included, by attempts that count only where what they wrote is accepted; in
-//! `analysis`, what `analyse` answers of a flow graph.
+//! Finds a certificate of a program, loops included, or a chain that tells where it may fail, by attempts that count only
+//! where what they wrote is accepted; in `analysis`, what `analyse` answers of a flow graph.
 //!
 //! Stands on `mc_find_shrink` and `mc_follow`; called by `mc_app`.
 #![tactic(auto)]
@@ -10,6 +10,8 @@ pub mod analysis;
 mod cuts;
 mod finding;
 pub mod matching;
+mod prepared;
+mod rank;
 pub mod walks;
 
 pub use crate::walks::Limits;

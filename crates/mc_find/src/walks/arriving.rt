@@ -1,8 +1,9 @@
 // Branches that come to a cut.
 use crate::matching::{Step, Trail, shrink};
-use crate::walks::Attempt;
-use crate::walks::heads::{Head, atoms_at, joint_atoms};
+use crate::walks::heads::joint_atoms;
+use crate::walks::walked::Walked;
 use crate::walks::walking::Way;
+use crate::walks::{Aim, Attempt};
 use mc_base::{EdgeId, Items, NoMemory, NodeId, PointId};
 use mc_check_line::jump::fits;
 use mc_find_view::sight::{Seen, look};
@@ -18,52 +19,34 @@ pub struct Landing {
     pub way: Way,
 }
 
-impl Attempt<'_> {
-    /// The head with the shape of what was seen.
-    fn head_like(&self, cut: PointId, seen: &Seen) -> Option<usize> {
-        for (place, head) in self.heads.as_slice().iter().enumerate() {
-            if head.has_shape(cut, seen) {
-                return Some(place);
-            }
-        }
-        None
-    }
+/// Ends a branch by the jump to where it lands, after the lines of its trail.
+pub fn jump(landing: Landing, trail: &mut Trail<'_>, walked: &mut Walked) -> Result<Way, NoMemory> {
+    trail.hand_over(&mut walked.lines)?;
+    let line = Line::L13(
+        landing.head as u64,
+        Items::of(landing.images),
+        Items::of(landing.edges),
+    );
+    walked.jump(landing.head, line)?;
+    Ok(landing.way)
+}
 
-    /// How many heads a cut has.
-    fn heads_at(&self, cut: PointId) -> usize {
-        let mut count = 0usize;
-        for head in self.heads.as_slice() {
-            if head.cut == cut && !head.is_dropped {
-                count = count.saturating_add(1);
-            }
-        }
-        count
+impl Attempt<'_> {
+    /// Whether a cut has as many heads as it may.
+    fn is_crowded(&self, cut: PointId) -> bool {
+        !self.rung_at(cut).loses && self.heads_at(cut) >= self.limits.keys
     }
 
     /// A new head of what was seen.
-    fn add_head(&mut self, cut: PointId, state: &State, seen: Seen) -> Result<Way, NoMemory> {
-        if self.heads_at(cut) >= self.limits.keys {
+    pub fn add_head(&mut self, cut: PointId, state: &State, seen: Seen) -> Result<Way, NoMemory> {
+        if self.is_crowded(cut) {
             return Ok(Way::Crowded(cut));
         }
-        let Some(atoms) = atoms_at(self.alloc, state.known(), seen.images.as_slice())? else {
+        let Some(head) = self.head_of(cut, state, seen)? else {
             return Ok(Way::Stuck);
         };
-        let mut raw = seen.raw;
-        raw.atoms = Items::of(atoms);
-        let Some(made) = self.paths.state_of(&raw)? else {
-            return Ok(Way::Stuck);
-        };
-        self.heads.push(Head {
-            cut,
-            raw,
-            state: made,
-            flags: seen.flags,
-            round: 1,
-            lines: Vec::new(self.alloc),
-            is_stale: true,
-            is_dropped: false,
-        })?;
-        if self.step_at(cut) == Step::Match {
+        self.heads.push(head)?;
+        if self.rung_at(cut).step == Step::Match {
             return self.absorb(cut);
         }
         Ok(Way::On)
@@ -122,7 +105,7 @@ impl Attempt<'_> {
     }
 
     /// Counts what folding a state takes, as so many lines more; whether that is left.
-    fn charge(&mut self, state: &State) -> bool {
+    pub fn charge(&mut self, state: &State) -> bool {
         let edges = state.edges().len() as u64;
         let work = edges.saturating_mul(edges).saturating_mul(edges) / 64;
         self.left = self.left.saturating_sub(work);
@@ -140,7 +123,7 @@ impl Attempt<'_> {
         };
         let seen = look(self.alloc, self.task.sight, state, cut)?;
         if let Some(place) = self.head_like(cut, &seen) {
-            return Ok(Some(self.land(place, state, seen)?));
+            return Ok(Some(self.land(place, state, &seen)?));
         }
         if let Some(landing) = self.fit_head(cut, &seen, trail)? {
             return Ok(Some(landing));
@@ -152,7 +135,7 @@ impl Attempt<'_> {
     }
 
     /// Ends the first branch, which has come to a cut: its state is folded, and a head takes it.
-    pub fn arrive(&mut self, cut: PointId, lines: &mut Vec<Line>) -> Result<Way, NoMemory> {
+    fn fold_and_land(&mut self, cut: PointId, walked: &mut Walked) -> Result<Way, NoMemory> {
         let mut trail = Trail::new(self.alloc, self.paths.split()?);
         match trail.state() {
             Some(state) => {
@@ -163,22 +146,28 @@ impl Attempt<'_> {
             None => return Ok(Way::Stuck),
         }
         shrink(self.alloc, self.manner(cut), cut, &mut trail)?;
+        if self.rung_at(cut).loses {
+            return self.arrive_losing(cut, &mut trail, walked);
+        }
         let Some(landing) = self.land_any(cut, &mut trail)? else {
             return Ok(Way::Stuck);
         };
-        trail.hand_over(lines)?;
-        lines.push(Line::L13(
-            landing.head as u64,
-            Items::of(landing.images),
-            Items::of(landing.edges),
-        ))?;
-        Ok(landing.way)
+        jump(landing, &mut trail, walked)
+    }
+
+    /// Ends the first branch, which has come to a cut.
+    pub fn arrive(&mut self, cut: PointId, walked: &mut Walked) -> Result<Way, NoMemory> {
+        if self.aim == Aim::Faults {
+            self.meet(cut)
+        } else {
+            self.fold_and_land(cut, walked)
+        }
     }
 
     /// Lands at a head of the same shape.
-    fn land(&mut self, head: usize, state: &State, seen: Seen) -> Result<Landing, NoMemory> {
-        let images = seen.images;
-        let edges = seen.edges;
+    pub fn land(&mut self, head: usize, state: &State, seen: &Seen) -> Result<Landing, NoMemory> {
+        let images = Vec::from_slice(self.alloc, seen.images.as_slice())?;
+        let edges = Vec::from_slice(self.alloc, seen.edges.as_slice())?;
         let way = self.meet_head(head, state, images.as_slice(), edges.as_slice())?;
         Ok(Landing {
             head,
@@ -189,7 +178,12 @@ impl Attempt<'_> {
     }
 
     /// Lands at a new head.
-    fn land_new(&mut self, cut: PointId, state: &State, seen: Seen) -> Result<Landing, NoMemory> {
+    pub fn land_new(
+        &mut self,
+        cut: PointId,
+        state: &State,
+        seen: Seen,
+    ) -> Result<Landing, NoMemory> {
         let images = Vec::from_slice(self.alloc, seen.images.as_slice())?;
         let edges = Vec::from_slice(self.alloc, seen.edges.as_slice())?;
         let head = self.heads.len();

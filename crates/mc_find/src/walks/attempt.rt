@@ -3,38 +3,12 @@ ghost use Rattle.mc_flow.specs.Valid.{IsValid};
 
 use crate::matching::{Manner, Paths, Step};
 use crate::walks::heads::Head;
+use crate::walks::style::{Aim, Limits, Rung, Style, Task, first_rung, rung_up};
+use crate::walks::walked::Walked;
 use crate::walks::walking::Way;
-use mc_base::{NoMemory, PointId, PredId};
-use mc_find_view::live::Asserted;
-use mc_find_view::sight::Sight;
+use mc_base::{NoMemory, PointId};
 use mc_lines::cert::Line;
 use std::alloc::Global;
-
-/// How much an attempt may take: lines in all, and states of a cut.
-#[derive(Clone, Copy, Debug, PartialEq, Eq)]
-pub struct Limits {
-    pub lines: u64,
-    pub keys: usize,
-}
-
-/// How an attempt folds: how many fields before a live variable's node blocks stay, by how much the numbers of new
-/// segments are more, and how far folding goes at first.
-#[derive(Clone, Copy, Debug, PartialEq, Eq)]
-pub struct Style {
-    pub before: usize,
-    pub room: i64,
-    pub step: Step,
-}
-
-/// What each attempt goes by: the program as it is looked at, the predicates in the order in which they are wanted, those
-/// that the program asserts, and the cuts.
-#[derive(Clone, Copy)]
-pub struct Task<'a> {
-    pub sight: Sight<'a>,
-    pub wanted: &'a [PredId],
-    pub asserted: &'a [Asserted],
-    pub cuts: &'a [PointId],
-}
 
 /// What comes of an attempt.
 #[derive(Drop)]
@@ -45,31 +19,22 @@ pub enum Outcome {
     Failed(u64),
 }
 
-/// An attempt to find a certificate: the states of cuts so far, the lines from the entry, how far folding goes at each
-/// cut, how many lines are left, and how many earlier rounds took.
+/// An attempt to find a document: the states of cuts so far, the branches from the entry, how far the ladder is climbed at
+/// each cut, how many lines are left, and how many earlier rounds took.
 #[derive(Drop)]
 pub struct Attempt<'a> {
     pub(crate) alloc: Global,
     pub(crate) paths: Paths<'a>,
     pub(crate) task: Task<'a>,
+    pub(crate) aim: Aim,
     pub(crate) style: Style,
     pub(crate) limits: Limits,
-    pub(crate) steps: Vec<Step>,
+    pub(crate) rungs: Vec<Rung>,
     pub(crate) heads: Vec<Head>,
-    pub(crate) entry: Vec<Line>,
+    pub(crate) entry: Walked,
     pub(crate) is_entry_stale: bool,
     pub(crate) left: u64,
     pub(crate) taken: u64,
-}
-
-/// The next step of folding.
-fn step_up(step: Step) -> Option<Step> {
-    match step {
-        Step::Plain => Some(Step::Whole),
-        Step::Whole => Some(Step::Coarse),
-        Step::Coarse => Some(Step::Match),
-        Step::Match => None,
-    }
 }
 
 impl<'a> Attempt<'a> {
@@ -77,6 +42,7 @@ impl<'a> Attempt<'a> {
     pub fn new(
         alloc: Global,
         task: Task<'a>,
+        aim: Aim,
         style: Style,
         limits: Limits,
     ) -> Result<Attempt<'a>, NoMemory>
@@ -86,11 +52,12 @@ impl<'a> Attempt<'a> {
             alloc,
             paths: Paths::new(alloc, task.sight.flow, task.sight.defs, task.cuts),
             task,
+            aim,
             style,
             limits,
-            steps: vec![in alloc; style.step; task.cuts.len()]?,
+            rungs: vec![in alloc; style.rung; task.cuts.len()]?,
             heads: Vec::new(alloc),
-            entry: Vec::new(alloc),
+            entry: Walked::new(alloc),
             is_entry_stale: true,
             left: limits.lines,
             taken: 0,
@@ -107,16 +74,16 @@ impl<'a> Attempt<'a> {
         None
     }
 
-    /// How far folding goes at a cut.
-    pub fn step_at(&self, cut: PointId) -> Step {
+    /// The rung that is reached at a cut.
+    pub fn rung_at(&self, cut: PointId) -> Rung {
         match self.place_of(cut) {
             Some(place) => self
-                .steps
+                .rungs
                 .as_slice()
                 .get(place)
                 .copied()
-                .unwrap_or(Step::Plain),
-            None => Step::Plain,
+                .unwrap_or(first_rung(Step::Plain)),
+            None => first_rung(Step::Plain),
         }
     }
 
@@ -126,19 +93,19 @@ impl<'a> Attempt<'a> {
             sight: self.task.sight,
             wanted: self.task.wanted,
             asserted: self.task.asserted,
-            step: self.step_at(cut),
+            step: self.rung_at(cut).step,
             before: self.style.before,
             room: self.style.room,
         }
     }
 
-    /// Goes one step up at a cut; whether there is one.
+    /// Goes one rung up at a cut; whether there is one.
     fn climb(&mut self, cut: PointId) -> bool {
-        let Some(next) = step_up(self.step_at(cut)) else {
+        let Some(next) = rung_up(self.rung_at(cut), self.style.heads) else {
             return false;
         };
         match self.place_of(cut) {
-            Some(place) => match self.steps.get_mut(place) {
+            Some(place) => match self.rungs.get_mut(place) {
                 Some(slot) => {
                     *slot = next;
                     true
@@ -149,14 +116,17 @@ impl<'a> Attempt<'a> {
         }
     }
 
-    /// The first head from which branches have to be followed.
-    fn next_stale(&self) -> Option<usize> {
+    /// The first head from which branches have to be followed; in a chain, of those that are reached.
+    fn next_stale(&self) -> Result<Option<usize>, NoMemory> {
+        if self.aim == Aim::Chain {
+            return self.next_reached();
+        }
         for (place, head) in self.heads.as_slice().iter().enumerate() {
             if head.is_stale && !head.is_dropped {
-                return Some(place);
+                return Ok(Some(place));
             }
         }
-        None
+        Ok(None)
     }
 
     /// Opens the branch at a head; whether it could be.
@@ -176,10 +146,15 @@ impl<'a> Attempt<'a> {
         if !self.enter_head(place)? {
             return Ok(Way::Stuck);
         }
-        let mut lines = Vec::new(self.alloc);
-        let way = self.walk(&mut lines)?;
+        let mut walked = Walked::new(self.alloc);
+        let way = self.walk(&mut walked)?;
         if let Some(head) = self.heads.get_mut(place) {
-            head.lines = lines;
+            if way == Way::Again {
+                head.is_stale = true;
+                head.walked.add_targets(&walked)?;
+            } else {
+                head.walked = walked;
+            }
         }
         Ok(way)
     }
@@ -189,41 +164,48 @@ impl<'a> Attempt<'a> {
         self.is_entry_stale = false;
         self.paths.clear();
         self.paths.enter()?;
-        let mut lines = Vec::new(self.alloc);
-        let way = self.walk(&mut lines)?;
-        self.entry = lines;
+        let mut walked = Walked::new(self.alloc);
+        let way = self.walk(&mut walked)?;
+        if way == Way::Again {
+            self.is_entry_stale = true;
+            self.entry.add_targets(&walked)?;
+        } else {
+            self.entry = walked;
+        }
         Ok(way)
     }
 
     /// Follows all branches from the entry, and from heads until none has changed.
     fn grow(&mut self) -> Result<Way, NoMemory> {
         self.heads.clear();
+        self.entry = Walked::new(self.alloc);
         self.is_entry_stale = true;
         for _ in 0..self.limits.lines {
             let way = if self.is_entry_stale {
                 self.walk_entry()?
             } else {
-                match self.next_stale() {
+                match self.next_stale()? {
                     Some(place) => self.walk_head(place)?,
                     None => return Ok(Way::On),
                 }
             };
-            if way != Way::On {
+            if way != Way::On && way != Way::Again {
                 return Ok(way);
             }
         }
         Ok(Way::TooLong)
     }
 
-    /// Grows the states of cuts, where a cut that would have too many begins again one step up. Whether they are whole.
+    /// Grows the states of cuts, where a cut that would have too many begins again one rung up. Whether they are whole.
     pub fn run(&mut self) -> Result<bool, NoMemory> {
-        for _ in 0..self.task.cuts.len().saturating_mul(4).saturating_add(1) {
+        for _ in 0..self.task.cuts.len().saturating_mul(5).saturating_add(1) {
             self.left = self.limits.lines;
             let way = self.grow()?;
             let more = self.limits.lines.saturating_sub(self.left);
             self.taken = self.taken.saturating_add(more);
             match way {
                 Way::On => return Ok(true),
+                Way::Again => return Ok(false),
                 Way::Stuck => return Ok(false),
                 Way::TooLong => return Ok(false),
                 Way::Crowded(cut) => {

@@ -1,4 +1,4 @@
-// The certificate of an attempt that is whole.
+// The document of an attempt that is whole.
 use crate::walks::heads::Head;
 use crate::walks::{Attempt, Outcome};
 use mc_base::{NoMemory, PointId};
@@ -54,11 +54,11 @@ fn push_heads(
                 let Head {
                     cut: at,
                     raw,
-                    lines,
+                    walked,
                     ..
                 } = head;
                 all.push(Line::Head(at, raw))?;
-                bodies.push(lines)?;
+                bodies.push(walked.lines)?;
             } else {
                 rest.push(head)?;
             }
@@ -68,18 +68,31 @@ fn push_heads(
     Ok(bodies)
 }
 
+/// Adds the line that opens the branches of a chain.
+fn push_pass(all: &mut Vec<Line>, form: Form) -> Result<(), NoMemory> {
+    match form {
+        Form::Certificate => Ok(()),
+        Form::Chain => {
+            all.push(Line::Pass)?;
+            Ok(())
+        }
+    }
+}
+
 impl Attempt<'_> {
-    /// The lines of the certificate.
-    pub fn certificate(self) -> Result<Vec<Line>, NoMemory> {
+    /// The lines of the document of a form: a certificate, or a chain of one pass.
+    pub fn document(self, form: Form) -> Result<Vec<Line>, NoMemory> {
         let alloc = self.alloc;
         let numbers = numbers(alloc, self.heads.as_slice())?;
         let mut all = Vec::new(alloc);
-        all.push(Line::Header(Version::One, Form::Certificate))?;
+        all.push(Line::Header(Version::One, form))?;
         for cut in self.task.cuts {
             all.push(Line::Cut(*cut))?;
         }
         let bodies = push_heads(alloc, &mut all, self.heads, self.task.cuts)?;
-        push_lines(&mut all, self.entry, numbers.as_slice())?;
+        push_pass(&mut all, form)?;
+        let entry = self.entry;
+        push_lines(&mut all, entry.lines, numbers.as_slice())?;
         for lines in bodies {
             push_lines(&mut all, lines, numbers.as_slice())?;
         }
@@ -87,10 +100,10 @@ impl Attempt<'_> {
         Ok(all)
     }
 
-    /// Makes the attempt.
+    /// Makes a certificate.
     pub fn make(mut self) -> Result<Outcome, NoMemory> {
         if self.run()? {
-            Ok(Outcome::Found(self.certificate()?))
+            Ok(Outcome::Found(self.document(Form::Certificate)?))
         } else {
             Ok(Outcome::Failed(self.taken))
         }

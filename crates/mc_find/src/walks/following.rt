@@ -1,6 +1,7 @@
 // The next line of a branch that follows the program.
 use crate::matching::Branch;
 use crate::walks::Attempt;
+use crate::walks::walking::Act;
 use mc_base::NoMemory;
 use mc_check_line::accessed_by;
 use mc_find_paths::next::{at_end, at_start, instance};
@@ -24,21 +25,24 @@ impl Attempt<'_> {
         }
     }
 
-    /// The next line of a branch by its instruction: what is accessed is unfolded first, from each start and from each end,
-    /// also where a block is there, since two at one node can't be. None where the instruction lacks something.
-    pub fn next_by_code(&self, branch: &Branch) -> Result<Option<Line>, NoMemory> {
+    /// What a branch asks for by its instruction: what is accessed is unfolded first, from each start and from each end, also
+    /// where a block is there, since two at one node can't be.
+    pub fn next_by_code(&self, branch: &Branch) -> Result<Act, NoMemory> {
         let Some(code) = self.paths.code() else {
-            return Ok(None);
+            return Ok(Act::Fail);
         };
         if let Some(line) = self.unfolding(branch, code) {
-            return Ok(Some(line));
+            return Ok(Act::Apply(line));
         }
         if self.paths.lacks()? {
-            return Ok(None);
+            return Ok(Act::Block);
         }
-        match self.unfolding_back(branch, code) {
-            Some(line) => Ok(Some(line)),
-            None => Ok(instance(&branch.state, code)),
+        if let Some(line) = self.unfolding_back(branch, code) {
+            return Ok(Act::Apply(line));
+        }
+        match instance(&branch.state, code) {
+            Some(line) => Ok(Act::Apply(line)),
+            None => Ok(Act::Fail),
         }
     }
 }

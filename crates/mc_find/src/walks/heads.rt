@@ -2,17 +2,18 @@
 ghost use Rattle.std.specs.Prelude.{All};
 ghost use Rattle.mc_base.specs.Ranges.Ends.{IsInt};
 
-use mc_base::{Atom, NULL, NoMemory, NodeId, PointId, VarId};
+use crate::walks::Attempt;
+use crate::walks::walked::Walked;
+use mc_base::{Atom, Items, NULL, NoMemory, NodeId, PointId, VarId};
 use mc_find_view::sight::{Seen, are_alike};
-use mc_lines::cert::Line;
 use mc_pure::Pure;
 use mc_pure_ops::join::{are_joinable, join};
 use mc_state::RawState;
 use mc_symbolic::State;
 use std::alloc::Global;
 
-/// A state of a cut: as documents write it, and as lines change it; how often it changed; and the lines of the branches
-/// from it, where these are of the state as it is now.
+/// A state of a cut: as documents write it, and as lines change it; how often it changed; what is known of the branches
+/// from it, where these are of the state as it is now; and whether it lost what arrivals lack.
 #[derive(Drop)]
 pub struct Head {
     pub cut: PointId,
@@ -20,16 +21,21 @@ pub struct Head {
     pub state: State,
     pub flags: Vec<(VarId, i64)>,
     pub round: u64,
-    pub lines: Vec<Line>,
+    pub walked: Walked,
     pub is_stale: bool,
     pub is_dropped: bool,
+    pub is_weak: bool,
 }
 
 impl Head {
+    /// Whether it is a head of a cut.
+    pub fn is_of(&self, cut: PointId) -> bool {
+        !self.is_dropped && self.cut == cut
+    }
+
     /// Whether what was seen of a state at a cut has this head's shape.
     pub fn has_shape(&self, cut: PointId, seen: &Seen) -> bool {
-        !self.is_dropped
-            && self.cut == cut
+        self.is_of(cut)
             && self.flags.as_slice() == seen.flags.as_slice()
             && are_alike(&self.raw, &seen.raw)
     }
@@ -54,7 +60,7 @@ fn twice(alloc: Global, images: &[NodeId]) -> Result<Vec<(NodeId, NodeId)>, NoMe
 }
 
 /// What is known on both sides of pairs, widened from the third round on, where they can be joined.
-fn joined(
+pub fn joined(
     alloc: Global,
     left: &Pure,
     right: &Pure,
@@ -75,11 +81,7 @@ fn joined(
 }
 
 /// What is known of nodes, with their places as numbers. A place of null is zero.
-pub fn atoms_at(
-    alloc: Global,
-    known: &Pure,
-    images: &[NodeId],
-) -> Result<Option<Vec<Atom>>, NoMemory> {
+fn atoms_at(alloc: Global, known: &Pure, images: &[NodeId]) -> Result<Option<Vec<Atom>>, NoMemory> {
     let pairs = twice(alloc, images)?;
     let Some(mut atoms) = joined(alloc, known, known, pairs.as_slice(), 1, &[])? else {
         return Ok(None);
@@ -112,4 +114,65 @@ pub fn joint_atoms(
         round,
         thresholds,
     )
+}
+
+impl Attempt<'_> {
+    /// The head with the shape of what was seen.
+    pub fn head_like(&self, cut: PointId, seen: &Seen) -> Option<usize> {
+        for (place, head) in self.heads.as_slice().iter().enumerate() {
+            if head.has_shape(cut, seen) {
+                return Some(place);
+            }
+        }
+        None
+    }
+
+    /// The head with that shape, other than one.
+    pub fn head_like_other(&self, own: usize, cut: PointId, seen: &Seen) -> Option<usize> {
+        for (place, head) in self.heads.as_slice().iter().enumerate() {
+            if place != own && head.has_shape(cut, seen) {
+                return Some(place);
+            }
+        }
+        None
+    }
+
+    /// How many heads a cut has.
+    pub fn heads_at(&self, cut: PointId) -> usize {
+        let mut count = 0usize;
+        for head in self.heads.as_slice() {
+            if head.is_of(cut) {
+                count = count.saturating_add(1);
+            }
+        }
+        count
+    }
+
+    /// The head of what was seen of a state. None where that is no state.
+    pub fn head_of(
+        &self,
+        cut: PointId,
+        state: &State,
+        seen: Seen,
+    ) -> Result<Option<Head>, NoMemory> {
+        let Some(atoms) = atoms_at(self.alloc, state.known(), seen.images.as_slice())? else {
+            return Ok(None);
+        };
+        let mut raw = seen.raw;
+        raw.atoms = Items::of(atoms);
+        let Some(made) = self.paths.state_of(&raw)? else {
+            return Ok(None);
+        };
+        Ok(Some(Head {
+            cut,
+            raw,
+            state: made,
+            flags: seen.flags,
+            round: 1,
+            walked: Walked::new(self.alloc),
+            is_stale: true,
+            is_dropped: false,
+            is_weak: false,
+        }))
+    }
 }

@@ -54,7 +54,7 @@ impl<'a> Attempt<'a> {
         seen: &Seen,
         trail: &mut Trail<'_>,
     ) -> Result<Option<Landing>, NoMemory> {
-        if self.step_at(cut) != Step::Match {
+        if self.rung_at(cut).step != Step::Match {
             return Ok(None);
         }
         for place in 0..self.heads.len() {

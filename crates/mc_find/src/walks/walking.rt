@@ -1,5 +1,6 @@
 // Walks from one root.
-use crate::walks::Attempt;
+use crate::walks::walked::{Walked, blocked_at};
+use crate::walks::{Aim, Attempt};
 use mc_base::{NoMemory, PointId};
 use mc_find_paths::next::false_or_null;
 use mc_lines::cert::Line;
@@ -9,6 +10,8 @@ use mc_lines::cert::Line;
 pub enum Way {
     /// It goes on.
     On,
+    /// A head has lost something: the root is followed again.
+    Again,
     /// An instruction lacks something, or a line could not be found.
     Stuck,
     /// A cut would have too many heads.
@@ -19,7 +22,7 @@ pub enum Way {
 
 /// What the first branch asks for.
 #[derive(Drop)]
-enum Act {
+pub enum Act {
     /// This line.
     Apply(Line),
     /// That a side branch is ended.
@@ -27,7 +30,9 @@ enum Act {
     /// That it is ended at this cut.
     Arrive(PointId),
     /// Its instruction lacks something.
-    Lack,
+    Block,
+    /// No line of its instruction can be applied.
+    Fail,
     /// There is no branch.
     Rest,
 }
@@ -47,10 +52,7 @@ impl Attempt<'_> {
         if branch.moved && self.task.cuts.contains(&branch.point) {
             return Ok(Act::Arrive(branch.point));
         }
-        match self.next_by_code(branch)? {
-            Some(line) => Ok(Act::Apply(line)),
-            None => Ok(Act::Lack),
-        }
+        self.next_by_code(branch)
     }
 
     /// Applies a line at the first branch.
@@ -62,13 +64,31 @@ impl Attempt<'_> {
         Ok(Way::On)
     }
 
+    /// Ends the first branch as blocked, unless a certificate is made.
+    fn block(&mut self, walked: &mut Walked) -> Result<Way, NoMemory> {
+        if self.aim == Aim::Certificate {
+            return Ok(Way::Stuck);
+        }
+        let Some(branch) = self.paths.pop() else {
+            return Ok(Way::Stuck);
+        };
+        match blocked_at(self.task.sight.flow, &branch) {
+            Some(blocked) => {
+                walked.block(blocked)?;
+                Ok(Way::On)
+            }
+            None => Ok(Way::Stuck),
+        }
+    }
+
     /// Goes one step along the first branch.
-    fn step(&mut self, lines: &mut Vec<Line>, act: Act) -> Result<Way, NoMemory> {
+    fn step(&mut self, walked: &mut Walked, act: Act) -> Result<Way, NoMemory> {
         match act {
-            Act::Apply(line) => self.apply(lines, line),
-            Act::EndSide => self.end_side(lines),
-            Act::Arrive(cut) => self.arrive(cut, lines),
-            Act::Lack => Ok(Way::Stuck),
+            Act::Apply(line) => self.apply(&mut walked.lines, line),
+            Act::EndSide => self.end_side(&mut walked.lines),
+            Act::Arrive(cut) => self.arrive(cut, walked),
+            Act::Block => self.block(walked),
+            Act::Fail => Ok(Way::Stuck),
             Act::Rest => Ok(Way::On),
         }
     }
@@ -78,8 +98,8 @@ impl Attempt<'_> {
         self.left = self.left.saturating_sub((lines as u64).max(1));
     }
 
-    /// Follows all open branches. The lines are added.
-    pub fn walk(&mut self, lines: &mut Vec<Line>) -> Result<Way, NoMemory> {
+    /// Follows all open branches, and adds what comes of them.
+    pub fn walk(&mut self, walked: &mut Walked) -> Result<Way, NoMemory> {
         for _ in 0..self.limits.lines {
             if self.left == 0 {
                 return Ok(Way::TooLong);
@@ -88,12 +108,12 @@ impl Attempt<'_> {
             if let Act::Rest = &act {
                 return Ok(Way::On);
             }
-            let before = lines.len();
-            let way = self.step(lines, act)?;
+            let before = walked.lines.len();
+            let way = self.step(walked, act)?;
             if way != Way::On {
                 return Ok(way);
             }
-            self.count(lines.len().saturating_sub(before));
+            self.count(walked.lines.len().saturating_sub(before));
         }
         Ok(Way::TooLong)
     }

@@ -1,0 +1,65 @@
+// What is found out of a program once, before it is searched.
+ghost use Rattle.std.specs.Prelude.{◌≡◌};
+
+use crate::cuts::loop_heads;
+use crate::walks::Task;
+use mc_base::{NoMemory, PointId, PredId};
+use mc_find_view::live::{
+    Asserted, Rows, StoredFields, asks_for_empty, asserted_shapes, constant_variables,
+    live_variables, wanted_predicates,
+};
+use mc_find_view::sight::Sight;
+use mc_flow::{Defs, Flow};
+use std::alloc::Global;
+
+/// What is found out of a program before it is searched.
+#[derive(Drop)]
+pub struct Prepared {
+    live: Rows,
+    stored: StoredFields,
+    constants: Vec<bool>,
+    wanted: Vec<PredId>,
+    asserted: Vec<Asserted>,
+    cuts: Vec<PointId>,
+}
+
+impl Prepared {
+    /// What is found out of a program.
+    pub fn of(alloc: Global, flow: &Flow, defs: &Defs) -> Result<Prepared, NoMemory> {
+        let live = live_variables(alloc, flow)?;
+        let stored = StoredFields::of(alloc, flow)?;
+        let constants = constant_variables(alloc, flow)?;
+        let wanted = wanted_predicates(alloc, flow, defs)?;
+        let asserted = asserted_shapes(alloc, flow)?;
+        let cuts = loop_heads(alloc, flow)?;
+        Ok(Prepared {
+            live,
+            stored,
+            constants,
+            wanted,
+            asserted,
+            cuts,
+        })
+    }
+
+    /// What each attempt at this program goes by.
+    pub fn task<'a>(&'a self, flow: &'a Flow, defs: &'a Defs) -> Task<'a>
+        ensures flow { result.sight.flow.now ≡ flow.now }
+        ensures defs { result.sight.defs.now ≡ defs.now }
+    {
+        let sight = Sight {
+            flow,
+            defs,
+            live: &self.live,
+            stored: &self.stored,
+            constants: self.constants.as_slice(),
+            all: asks_for_empty(flow),
+        };
+        Task {
+            sight,
+            wanted: self.wanted.as_slice(),
+            asserted: self.asserted.as_slice(),
+            cuts: self.cuts.as_slice(),
+        }
+    }
+}
