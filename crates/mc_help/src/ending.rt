@@ -1,6 +1,6 @@
 // What is said before a call, and after it.
 
-use crate::files::{explain_files, named};
+use crate::files::{explain_files, files_of};
 use crate::refused::explain_words;
 use mc_app::Status;
 use mc_app::words::asked;
@@ -23,16 +23,16 @@ pub fn warn<R: Eprint>(rt: &R, alloc: Global, words: &[String]) -> io::Result<()
     let Some(request) = asked(alloc, words)? else {
         return Ok(());
     };
-    let named = named(request);
-    let Some(target) = named.target else {
+    let files = files_of(request);
+    let Some(target) = files.target else {
         return Ok(());
     };
-    if target == named.program {
+    if target == files.program {
         eprintln!(rt;
             "memcad: warning: {target} is also the program: it is read first, and replaced if a document is written"
         )?;
     }
-    if target == named.definitions {
+    if target == files.definitions {
         eprintln!(rt;
             "memcad: warning: {target} also has the definitions: it is read first, and replaced if a document is written"
         )?;
@@ -76,6 +76,6 @@ fn explain_device<R: Files + Eprint>(
     match asked(alloc, words)? {
         None => explain_words(rt, alloc, words),
         Some(_) if output_failed => Ok(()),
-        Some(request) => explain_files(rt, named(request)),
+        Some(request) => explain_files(rt, files_of(request)),
     }
 }

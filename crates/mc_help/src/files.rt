@@ -18,7 +18,7 @@ pub struct Named<'w> {
 }
 
 /// The files that a request names.
-pub fn named<'w>(request: Request<'w>) -> Named<'w> {
+pub fn files_of<'w>(request: Request<'w>) -> Named<'w> {
     match request {
         Request::Check(names) => Named {
             program: names.program,
@@ -42,9 +42,9 @@ pub fn named<'w>(request: Request<'w>) -> Named<'w> {
 }
 
 /// Names each file that cannot be read, else the document that cannot be written.
-pub fn explain_files<R: Files + Eprint>(rt: &R, named: Named<'_>) -> io::Result<()> {
+pub fn explain_files<R: Files + Eprint>(rt: &R, files: Named<'_>) -> io::Result<()> {
     let mut are_read = true;
-    for name in [Some(named.program), Some(named.definitions), named.third] {
+    for name in [Some(files.program), Some(files.definitions), files.third] {
         let Some(name) = name else {
             continue;
         };
@@ -53,7 +53,7 @@ pub fn explain_files<R: Files + Eprint>(rt: &R, named: Named<'_>) -> io::Result<
             are_read = false;
         }
     }
-    match named.target {
+    match files.target {
         Some(name) if are_read => explain_document(rt, name),
         None if are_read => eprintln!(rt;
             "memcad: a file could not be read, but now it can be: try again"
