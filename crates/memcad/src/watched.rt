@@ -1,4 +1,4 @@
-// An output that keeps what is known of its writes.
+// An output that keeps what is known of its last write.
 ghost use Rattle.mc_outside.specs.Outside.{AddsIfTold, HasCause};
 
 use mc_outside::{FileFault, Sink};
@@ -6,7 +6,7 @@ use mc_outside::{FileFault, Sink};
 // The answer of an analysis that found neither a proof nor alarms.
 const NOTHING_FOUND: &[u8] = b"program: NotYet\n";
 
-/// An output, with whether a write to it failed and what the last one was.
+/// An output, with whether the last write to it failed, and what that was.
 #[derive(Drop)]
 pub struct Watched<K: Sink + Drop> {
     out: K,
@@ -24,7 +24,7 @@ impl<K: Sink + Drop> Watched<K> {
         }
     }
 
-    /// Whether a write failed.
+    /// Whether the last write failed.
     pub fn has_failed(&self) -> bool {
         self.has_failed
     }
