@@ -1,5 +1,4 @@
 // An output that keeps what is known of its last write.
-ghost use Rattle.mc_outside.specs.Outside.{AddsIfTold, HasCause};
 
 use mc_outside::{FileFault, Sink};
 
