@@ -1,10 +1,15 @@
-//! Reads the words of the command line, and ends with the status of what they ask for.
+//! Reads the words of the command line, and ends with the status of what they ask for. What `help` of `mc_app` says of it
+//! goes to standard error.
 #![tactic(auto)]
 
+mod watched;
+
+use mc_app::help::{Ending, explain, warn};
 use mc_app::{Status, memcad};
 use mc_outside::{HostFiles, HostSink};
 use std::process::ExitCode;
 use std::{env, io};
+use watched::Watched;
 
 // The words of the command line without the program's own name.
 fn words(rt: &HostRuntime) -> io::Result<Vec<String>> {
@@ -23,19 +28,30 @@ fn without_words(error: &io::Error) -> u8 {
     }
 }
 
+// Does what the words ask for. A text for standard error that cannot be written is left out.
+fn answered(rt: &HostRuntime, words: &[String]) -> Status {
+    let alloc = rt.alloc();
+    let _warned = warn(rt, alloc, words);
+    let mut files = HostFiles::new(rt);
+    let mut out = Watched::new(HostSink::new(rt));
+    let status = memcad(alloc, words, &mut files, &mut out);
+    let ending = Ending {
+        status,
+        output_failed: out.has_failed(),
+        nothing_found: out.says_nothing_found(),
+    };
+    let _explained = explain(rt, alloc, words, ending);
+    status
+}
+
 fn main(rt: HostRuntime) -> ExitCode {
     match words(&rt) {
-        Err(error) => ExitCode::from(without_words(&error)),
-        Ok(words) => {
-            let alloc = rt.alloc();
-            let first: Result<_, _> = rt.clone();
-            let Ok(first) = first else {
-                return ExitCode::from(Status::Memory.code());
-            };
-            let mut files = HostFiles::new(first);
-            let mut out = HostSink::new(rt);
-            let status = memcad(alloc, words.as_slice(), &mut files, &mut out);
-            ExitCode::from(status.code())
+        Ok(words) => ExitCode::from(answered(&rt, words.as_slice()).code()),
+        Err(error) => {
+            let _explained = eprintln!(rt;
+                "memcad: the words of the command line could not be read: {error}"
+            );
+            ExitCode::from(without_words(&error))
         }
     }
 }
