@@ -14,15 +14,21 @@ use mc_flow::{Defs, Flow};
 use mc_lines::cert::{Form, Line, Version};
 use std::alloc::{AllocError, Global};
 
-/// Whether the line is the header of a certificate.
-fn is_header(line: &Line) -> bool
-    ensures { (result ≡ true) ↔ (line.now ≡ Header One Certificate) }
+/// Whether the line is the header of a document of this form.
+pub fn is_header(line: &Line, form: Form) -> bool
+    ensures { (result ≡ true) ↔ (line.now ≡ Header One form) }
 {
     match line {
-        Line::Header(version, form) => match version {
-            Version::One => match form {
-                Form::Certificate => true,
-                Form::Chain => false,
+        Line::Header(version, written) => match version {
+            Version::One => match written {
+                Form::Certificate => match form {
+                    Form::Certificate => true,
+                    Form::Chain => false,
+                },
+                Form::Chain => match form {
+                    Form::Certificate => false,
+                    Form::Chain => true,
+                },
             },
         },
         _ => false,
@@ -100,7 +106,7 @@ pub fn is_certificate(
     match lines {
         [] => Ok(false),
         [header, rest @ ..] => {
-            if is_header(header) {
+            if is_header(header, Form::Certificate) {
                 ends(alloc, flow, defs, rest)
             } else {
                 Ok(false)

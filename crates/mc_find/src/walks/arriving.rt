@@ -122,7 +122,7 @@ impl Attempt<'_> {
             return Ok(None);
         };
         let seen = look(self.alloc, self.task.sight, state, cut)?;
-        if let Some(place) = self.head_like(cut, &seen) {
+        if let Some(place) = self.head_like(cut, &seen, None) {
             return Ok(Some(self.land(place, state, &seen)?));
         }
         if let Some(landing) = self.fit_head(cut, &seen, trail)? {

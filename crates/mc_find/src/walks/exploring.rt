@@ -14,7 +14,7 @@ impl Attempt<'_> {
             return Ok(Way::TooLong);
         }
         let seen = look(self.alloc, self.task.sight, &branch.state, cut)?;
-        match self.head_like(cut, &seen) {
+        match self.head_like(cut, &seen, None) {
             Some(_) => Ok(Way::On),
             None => self.add_head(cut, &branch.state, seen),
         }

@@ -34,8 +34,8 @@ impl Attempt<'_> {
         if let Some(line) = self.unfolding(branch, code) {
             return Ok(Act::Apply(line));
         }
-        if self.paths.lacks()? {
-            return Ok(Act::Block);
+        if let Some(gap) = self.paths.gap()? {
+            return Ok(Act::Block(branch.point, gap));
         }
         if let Some(line) = self.unfolding_back(branch, code) {
             return Ok(Act::Apply(line));

@@ -117,20 +117,10 @@ pub fn joint_atoms(
 }
 
 impl Attempt<'_> {
-    /// The head with the shape of what was seen.
-    pub fn head_like(&self, cut: PointId, seen: &Seen) -> Option<usize> {
+    /// The head with the shape of what was seen, other than one.
+    pub fn head_like(&self, cut: PointId, seen: &Seen, except: Option<usize>) -> Option<usize> {
         for (place, head) in self.heads.as_slice().iter().enumerate() {
-            if head.has_shape(cut, seen) {
-                return Some(place);
-            }
-        }
-        None
-    }
-
-    /// The head with that shape, other than one.
-    pub fn head_like_other(&self, own: usize, cut: PointId, seen: &Seen) -> Option<usize> {
-        for (place, head) in self.heads.as_slice().iter().enumerate() {
-            if place != own && head.has_shape(cut, seen) {
+            if except != Some(place) && head.has_shape(cut, seen) {
                 return Some(place);
             }
         }

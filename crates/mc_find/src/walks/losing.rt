@@ -180,7 +180,7 @@ impl Attempt<'_> {
         }
         self.follow_again(place);
         let own = look(self.alloc, self.task.sight, &part, cut)?;
-        match self.head_like_other(place, cut, &own) {
+        match self.head_like(cut, &own, Some(place)) {
             Some(other) => self.give_up(place, other, &part, &own),
             None => self.weaken(place, cut, &part, own),
         }
@@ -194,7 +194,7 @@ impl Attempt<'_> {
         seen: &Seen,
         fresh: &[usize],
     ) -> Result<Option<Landing>, NoMemory> {
-        if let Some(place) = self.head_like(cut, seen) {
+        if let Some(place) = self.head_like(cut, seen, None) {
             return Ok(Some(self.land(place, state, seen)?));
         }
         if let Some(place) = self.taker(cut, seen, false)? {

@@ -1,11 +1,9 @@
 // What is known of a root whose branches were followed.
-use crate::matching::Branch;
 use mc_base::text::Place;
-use mc_base::{NoMemory, VarId};
-use mc_find_paths::next::instance;
-use mc_flow::{Flow, Instr, Operand};
+use mc_base::{NoMemory, PointId};
+use mc_flow::Flow;
 use mc_lines::cert::Line;
-use mc_symbolic::State;
+use mc_rules_steps::Gap;
 use std::alloc::Global;
 
 /// The kinds of what an instruction may lack.
@@ -69,62 +67,24 @@ impl Walked {
     }
 }
 
-/// Whether an operand is a variable that is not known.
-fn is_unknown(state: &State, operand: Operand) -> bool {
-    match operand {
-        Operand::Var(x) => state.var(x).is_none(),
-        Operand::Const(_) => false,
+/// The kind of a gap.
+fn lack_of(gap: Gap) -> Lack {
+    match gap {
+        Gap::Uninit(_) => Lack::Variable,
+        Gap::NoBlock(_) => Lack::Block,
+        Gap::Reached => Lack::Failing,
+        Gap::NoShape(_, _) => Lack::Shape,
+        Gap::UninitField(_, _) => Lack::Field,
+        Gap::NotEmpty(_) => Lack::Emptiness,
     }
 }
 
-/// Whether one of some operands is a variable that is not known.
-fn is_one_unknown(state: &State, operands: &[Operand]) -> bool {
-    for operand in operands {
-        if is_unknown(state, *operand) {
-            return true;
-        }
-    }
-    false
-}
-
-/// A variable, where one is not known; else this.
-fn variable_or(is_unknown: bool, other: Lack) -> Lack {
-    if is_unknown { Lack::Variable } else { other }
-}
-
-/// What an access by a variable lacks; this where the block is there.
-fn lack_at(state: &State, code: &Instr, base: VarId, other: Lack) -> Lack {
-    if state.var(base).is_none() {
-        return Lack::Variable;
-    }
-    match instance(state, code) {
-        Some(_) => other,
-        None => Lack::Block,
-    }
-}
-
-/// What an instruction lacks at a state, where it lacks something.
-fn lack_of(state: &State, code: &Instr) -> Lack {
-    match code {
-        Instr::Load(_, base, _, _, _) => lack_at(state, code, *base, Lack::Field),
-        Instr::Store(base, _, _, _, _) => lack_at(state, code, *base, Lack::Variable),
-        Instr::Free(freed, _) => variable_or(is_unknown(state, *freed), Lack::Block),
-        Instr::AssertShape(_, at, args, _) => {
-            let is_open = is_unknown(state, *at) || is_one_unknown(state, args.as_slice());
-            variable_or(is_open, Lack::Shape)
-        }
-        Instr::AssertEmpty(_) => Lack::Emptiness,
-        Instr::Fail => Lack::Failing,
-        _ => Lack::Variable,
-    }
-}
-
-/// Where a branch is blocked, whose instruction lacks something. None where there is no such point.
-pub fn blocked_at(flow: &Flow, branch: &Branch) -> Option<Blocked> {
-    match flow.points.as_slice().get(branch.point.0 as usize) {
+/// Where the instruction at a point blocks by a gap. None where there is no such point.
+pub fn blocked_at(flow: &Flow, point: PointId, gap: Gap) -> Option<Blocked> {
+    match flow.points.as_slice().get(point.0 as usize) {
         Some(there) => Some(Blocked {
             place: there.place,
-            lack: lack_of(&branch.state, &there.code),
+            lack: lack_of(gap),
         }),
         None => None,
     }

@@ -4,6 +4,7 @@ use crate::walks::{Aim, Attempt};
 use mc_base::{NoMemory, PointId};
 use mc_find_paths::next::false_or_null;
 use mc_lines::cert::Line;
+use mc_rules_steps::Gap;
 
 /// How a walk goes on.
 #[derive(Clone, Copy, Debug, PartialEq, Eq)]
@@ -29,8 +30,8 @@ pub enum Act {
     EndSide,
     /// That it is ended at this cut.
     Arrive(PointId),
-    /// Its instruction lacks something.
-    Block,
+    /// Its instruction at this point lacks something.
+    Block(PointId, Gap),
     /// No line of its instruction can be applied.
     Fail,
     /// There is no branch.
@@ -64,21 +65,17 @@ impl Attempt<'_> {
         Ok(Way::On)
     }
 
-    /// Ends the first branch as blocked, unless a certificate is made.
-    fn block(&mut self, walked: &mut Walked) -> Result<Way, NoMemory> {
+    /// Ends the first branch as blocked at a point by a gap, unless a certificate is made.
+    fn block(&mut self, walked: &mut Walked, point: PointId, gap: Gap) -> Result<Way, NoMemory> {
         if self.aim == Aim::Certificate {
             return Ok(Way::Stuck);
         }
-        let Some(branch) = self.paths.pop() else {
+        let Some(blocked) = blocked_at(self.task.sight.flow, point, gap) else {
             return Ok(Way::Stuck);
         };
-        match blocked_at(self.task.sight.flow, &branch) {
-            Some(blocked) => {
-                walked.block(blocked)?;
-                Ok(Way::On)
-            }
-            None => Ok(Way::Stuck),
-        }
+        let _ended = self.paths.pop();
+        walked.block(blocked)?;
+        Ok(Way::On)
     }
 
     /// Goes one step along the first branch.
@@ -87,7 +84,7 @@ impl Attempt<'_> {
             Act::Apply(line) => self.apply(&mut walked.lines, line),
             Act::EndSide => self.end_side(&mut walked.lines),
             Act::Arrive(cut) => self.arrive(cut, walked),
-            Act::Block => self.block(walked),
+            Act::Block(point, gap) => self.block(walked, point, gap),
             Act::Fail => Ok(Way::Stuck),
             Act::Rest => Ok(Way::On),
         }

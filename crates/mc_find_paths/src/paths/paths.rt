@@ -11,6 +11,7 @@ use mc_document::proof::Stack;
 use mc_flow::{Defs, Flow, Instr};
 use mc_gaps::lacking::lacking_at;
 use mc_lines::cert::Line;
+use mc_rules_steps::Gap;
 use mc_state::{Form, RawState};
 use mc_symbolic::State;
 use std::alloc::Global;
@@ -171,20 +172,17 @@ impl<'f> Paths<'f> {
         }
     }
 
-    /// Whether the instruction of the first branch lacks something there.
-    pub fn lacks(&self) -> Result<bool, NoMemory> {
+    /// What the instruction of the first branch lacks there, if it lacks something.
+    pub fn gap(&self) -> Result<Option<Gap>, NoMemory> {
         match self.open.top() {
-            Some(branch) => {
-                let gap = lacking_at(
-                    self.alloc,
-                    self.flow,
-                    self.defs,
-                    branch.point,
-                    &branch.state,
-                )?;
-                Ok(gap.is_some())
-            }
-            None => Ok(true),
+            Some(branch) => lacking_at(
+                self.alloc,
+                self.flow,
+                self.defs,
+                branch.point,
+                &branch.state,
+            ),
+            None => Ok(None),
         }
     }
 

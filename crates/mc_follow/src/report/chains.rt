@@ -11,12 +11,12 @@ use crate::alarms::documents_are_followed;
 use crate::report::heads::push_written;
 use crate::report::lines::{push_alarm, push_count};
 use mc_base::{NoMemory, PointId};
-use mc_document::certified::may_stand;
+use mc_document::certified::{is_header, may_stand};
 use mc_document::proof::{ApplyFault, Proof};
 use mc_flow::{Defs, Flow};
 use mc_kernel::reading::refusals_are_one;
 use mc_lines::cert::Line;
-use mc_state::{Form, Version};
+use mc_state::Form;
 use std::alloc::{AllocError, Global};
 
 /// The report of a chain, and how many of its branches are stuck.
@@ -144,21 +144,6 @@ impl<'f> Draft<'f> {
     }
 }
 
-/// Whether the line is the header of a chain.
-fn is_header(line: &Line) -> bool
-    ensures { (result ≡ true) ↔ (line.now ≡ Header One Chain) }
-{
-    match line {
-        Line::Header(version, form) => match version {
-            Version::One => match form {
-                Form::Certificate => false,
-                Form::Chain => true,
-            },
-        },
-        _ => false,
-    }
-}
-
 /// The report of these lines, after the header of a chain.
 fn report_after(
     alloc: Global,
@@ -194,7 +179,7 @@ pub fn chain_report(
     match lines {
         [] => Ok(None),
         [header, rest @ ..] => {
-            if is_header(header) {
+            if is_header(header, Form::Chain) {
                 report_after(alloc, flow, defs, rest)
             } else {
                 Ok(None)
