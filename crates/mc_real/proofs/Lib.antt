@@ -1,1 +1,4 @@
-pub mod ClosedAlarms
+pub mod Lasting
+pub mod Bounding
+pub mod NearFaults
+pub mod ExactAlarms
