@@ -46,12 +46,12 @@ const fn styles() -> [Style; 8] {
     [
         losing(Step::Plain, 8),
         losing(Step::Coarse, 8),
-        climbing(0),
-        climbing(1),
         losing(Step::Plain, 4),
         losing(Step::Coarse, 4),
         losing(Step::Coarse, 2),
         losing(Step::Coarse, 1),
+        climbing(0),
+        climbing(1),
     ]
 }
 
@@ -179,6 +179,20 @@ fn is_settled(best: &Option<Offer>, faults: &[Blocked]) -> bool {
     }
 }
 
+/// Whether what was found tells just the faults that are met before anything is folded.
+fn is_right(best: &Option<Offer>) -> bool {
+    match best {
+        Some(found) => found.rank.is_right(),
+        None => false,
+    }
+}
+
+/// Whether an attempt of this style may tell better. Those that climb the ladder take long, and are made where nothing is
+/// right so far.
+fn is_needed(style: &Style, best: &Option<Offer>, faults: &[Blocked]) -> bool {
+    !is_settled(best, faults) && (style.rung.loses || !is_right(best))
+}
+
 /// What was found best.
 fn best_of(best: Option<Offer>) -> Option<Proposed>
     ensures { (flow : Graph) (defs : List Def) → IfSome best (λ offer. IsProposed flow defs offer.proposed)
@@ -203,7 +217,7 @@ fn try_all(
     let mut left = limits.lines.saturating_mul(WHOLE);
     let mut best: Option<Offer> = None;
     for style in &styles() {
-        if left > 0 && !is_settled(&best, faults) {
+        if left > 0 && is_needed(style, &best, faults) {
             if let Some(found) = try_one(alloc, task, *style, limits, faults, &best, &mut left)? {
                 best = Some(found);
             }
