@@ -1,4 +1,4 @@
-// The search for alarms of a program with loops.
+// Attempts for alarms of a program with loops.
 ghost use Rattle.std.specs.Prelude.{IfOk, IfSome, List};
 ghost use Rattle.mc_flow.specs.declared.defs.rules.Def.{Def};
 ghost use Rattle.mc_flow.specs.declared.graph.Flow.{Flow as Graph};
@@ -7,11 +7,9 @@ ghost use Rattle.mc_find.specs.Analysis.Findings.{IsProposed};
 
 use crate::accepted::{is_found, reported};
 use crate::analysis::Proposed;
-use crate::prepared::Prepared;
 use crate::rank::Rank;
 use crate::walks::{Aim, Attempt, Blocked, Limits, Rung, Step, Style, Task, first_rung};
 use mc_base::NoMemory;
-use mc_flow::{Defs, Flow};
 use mc_lines::cert::{Form, Line};
 use std::alloc::Global;
 
@@ -56,7 +54,7 @@ const fn styles() -> [Style; 8] {
 }
 
 /// The faults that are met before anything is folded.
-fn first_faults(alloc: Global, task: Task<'_>) -> Result<Vec<Blocked>, NoMemory>
+pub fn first_faults(alloc: Global, task: Task<'_>) -> Result<Vec<Blocked>, NoMemory>
     requires { IsValid task.sight.flow.now task.sight.defs.now }
 {
     let limits = Limits {
@@ -204,8 +202,9 @@ fn best_of(best: Option<Offer>) -> Option<Proposed>
     }
 }
 
-/// The attempts one after the other, where these faults are met before anything is folded.
-fn try_all(
+/// The attempts one after the other, where these faults are met before anything is folded: the chain that tells best what is
+/// met so, or a certificate after all. None says only that nothing was found.
+pub fn try_all(
     alloc: Global,
     task: Task<'_>,
     limits: Limits,
@@ -224,22 +223,4 @@ fn try_all(
         }
     }
     Ok(best_of(best))
-}
-
-/// A chain of one pass that tells where a program may fail, or a certificate after all, where one is found within the limits
-/// of each attempt: of several chains the one that tells best what is met before anything is folded. None says only that
-/// nothing was found.
-pub fn find_alarms(
-    alloc: Global,
-    flow: &Flow,
-    defs: &Defs,
-    limits: Limits,
-) -> Result<Option<Proposed>, NoMemory>
-    requires { IsValid flow.now defs.now }
-    ensures { IfOk result (λ found. IfSome found (λ proposed. IsProposed flow.now defs.now proposed)) }
-{
-    let prepared = Prepared::of(alloc, flow, defs)?;
-    let task = prepared.task(flow, defs);
-    let faults = first_faults(alloc, task)?;
-    try_all(alloc, task, limits, faults.as_slice())
 }
