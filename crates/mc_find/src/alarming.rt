@@ -60,6 +60,7 @@ pub fn first_faults(alloc: Global, task: Task<'_>) -> Result<Vec<Blocked>, NoMem
     let limits = Limits {
         lines: FIRST,
         keys: usize::MAX,
+        rounds: u64::MAX,
     };
     let style = Style {
         before: 0,
@@ -151,6 +152,7 @@ fn try_one(
     let own = Limits {
         lines: limits.lines.min(*left),
         keys: limits.keys,
+        rounds: limits.rounds,
     };
     let mut attempt = Attempt::new(alloc, task, Aim::Chain, style, own)?;
     let is_whole = attempt.run()?;

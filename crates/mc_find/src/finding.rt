@@ -70,6 +70,7 @@ fn try_one(
     let own = Limits {
         lines: limits.lines.min(*left),
         keys: plan.keys,
+        rounds: limits.rounds,
     };
     let attempt = Attempt::new(alloc, task, Aim::Certificate, plan.style, own)?;
     let taken = match attempt.make()? {

@@ -157,8 +157,15 @@ fn answered(
     }
 }
 
-// Where there are loops, a certificate is searched for whose cuts have so many states at most, and else a chain.
-fn with_loops(alloc: Global, flow: &Flow, defs: &Defs, states: usize) -> Result<Analysis, NoMemory>
+// Where there are loops, a certificate is searched for whose cuts have so many states at most, made in so many rounds, and else
+// a chain.
+fn with_loops(
+    alloc: Global,
+    flow: &Flow,
+    defs: &Defs,
+    states: usize,
+    rounds: u64,
+) -> Result<Analysis, NoMemory>
     requires valid { IsValid flow.now defs.now }
     requires loops { flow.now.heads ≡ [] → ⊥ }
     ensures { IfOk result (IsAnalysis flow.now defs.now) }
@@ -166,6 +173,7 @@ fn with_loops(alloc: Global, flow: &Flow, defs: &Defs, states: usize) -> Result<
     let limits = Limits {
         lines: LINES,
         keys: states,
+        rounds,
     };
     match search(alloc, flow, defs, limits)? {
         Some(proposed) => answered(alloc, flow, defs, proposed),
@@ -173,14 +181,21 @@ fn with_loops(alloc: Global, flow: &Flow, defs: &Defs, states: usize) -> Result<
     }
 }
 
-/// Analyses a flow graph. A cut has about so many states at most.
-pub fn analyse(alloc: Global, flow: &Flow, defs: &Defs, states: usize) -> Result<Analysis, NoMemory>
+/// Analyses a flow graph. A cut has about so many states at most, and an attempt walks from those that are new or have changed
+/// in so many rounds at most.
+pub fn analyse(
+    alloc: Global,
+    flow: &Flow,
+    defs: &Defs,
+    states: usize,
+    rounds: u64,
+) -> Result<Analysis, NoMemory>
     requires { IsValid flow.now defs.now }
     ensures { IfOk result (IsAnalysis flow.now defs.now) }
 {
     if flow.heads.is_empty() {
         without_loops(alloc, flow, defs)
     } else {
-        with_loops(alloc, flow, defs, states)
+        with_loops(alloc, flow, defs, states, rounds)
     }
 }
