@@ -1,4 +1,4 @@
-// The search for alarms of a program with loops.
+// Attempts for alarms of a program with loops.
 ghost use Rattle.std.specs.Prelude.{IfOk, IfSome, List};
 ghost use Rattle.mc_flow.specs.declared.defs.rules.Def.{Def};
 ghost use Rattle.mc_flow.specs.declared.graph.Flow.{Flow as Graph};
@@ -7,11 +7,9 @@ ghost use Rattle.mc_find.specs.Analysis.Findings.{IsProposed};
 
 use crate::accepted::{is_found, reported};
 use crate::analysis::Proposed;
-use crate::prepared::Prepared;
 use crate::rank::Rank;
 use crate::walks::{Aim, Attempt, Blocked, Limits, Rung, Step, Style, Task, first_rung};
 use mc_base::NoMemory;
-use mc_flow::{Defs, Flow};
 use mc_lines::cert::{Form, Line};
 use std::alloc::Global;
 
@@ -46,22 +44,23 @@ const fn styles() -> [Style; 8] {
     [
         losing(Step::Plain, 8),
         losing(Step::Coarse, 8),
-        climbing(0),
-        climbing(1),
         losing(Step::Plain, 4),
         losing(Step::Coarse, 4),
         losing(Step::Coarse, 2),
         losing(Step::Coarse, 1),
+        climbing(0),
+        climbing(1),
     ]
 }
 
 /// The faults that are met before anything is folded.
-fn first_faults(alloc: Global, task: Task<'_>) -> Result<Vec<Blocked>, NoMemory>
+pub fn first_faults(alloc: Global, task: Task<'_>) -> Result<Vec<Blocked>, NoMemory>
     requires { IsValid task.sight.flow.now task.sight.defs.now }
 {
     let limits = Limits {
         lines: FIRST,
         keys: usize::MAX,
+        rounds: u64::MAX,
     };
     let style = Style {
         before: 0,
@@ -153,6 +152,7 @@ fn try_one(
     let own = Limits {
         lines: limits.lines.min(*left),
         keys: limits.keys,
+        rounds: limits.rounds,
     };
     let mut attempt = Attempt::new(alloc, task, Aim::Chain, style, own)?;
     let is_whole = attempt.run()?;
@@ -179,6 +179,20 @@ fn is_settled(best: &Option<Offer>, faults: &[Blocked]) -> bool {
     }
 }
 
+/// Whether what was found tells just the faults that are met before anything is folded.
+fn is_right(best: &Option<Offer>) -> bool {
+    match best {
+        Some(found) => found.rank.is_right(),
+        None => false,
+    }
+}
+
+/// Whether an attempt of this style may tell better. Those that climb the ladder take long, and are made where nothing is
+/// right so far.
+fn is_needed(style: &Style, best: &Option<Offer>, faults: &[Blocked]) -> bool {
+    !is_settled(best, faults) && (style.rung.loses || !is_right(best))
+}
+
 /// What was found best.
 fn best_of(best: Option<Offer>) -> Option<Proposed>
     ensures { (flow : Graph) (defs : List Def) → IfSome best (λ offer. IsProposed flow defs offer.proposed)
@@ -190,8 +204,9 @@ fn best_of(best: Option<Offer>) -> Option<Proposed>
     }
 }
 
-/// The attempts one after the other, where these faults are met before anything is folded.
-fn try_all(
+/// The attempts one after the other, where these faults are met before anything is folded: the chain that tells best what is
+/// met so, or a certificate after all. None says only that nothing was found.
+pub fn try_all(
     alloc: Global,
     task: Task<'_>,
     limits: Limits,
@@ -203,29 +218,11 @@ fn try_all(
     let mut left = limits.lines.saturating_mul(WHOLE);
     let mut best: Option<Offer> = None;
     for style in &styles() {
-        if left > 0 && !is_settled(&best, faults) {
+        if left > 0 && is_needed(style, &best, faults) {
             if let Some(found) = try_one(alloc, task, *style, limits, faults, &best, &mut left)? {
                 best = Some(found);
             }
         }
     }
     Ok(best_of(best))
-}
-
-/// A chain of one pass that tells where a program may fail, or a certificate after all, where one is found within the limits
-/// of each attempt: of several chains the one that tells best what is met before anything is folded. None says only that
-/// nothing was found.
-pub fn find_alarms(
-    alloc: Global,
-    flow: &Flow,
-    defs: &Defs,
-    limits: Limits,
-) -> Result<Option<Proposed>, NoMemory>
-    requires { IsValid flow.now defs.now }
-    ensures { IfOk result (λ found. IfSome found (λ proposed. IsProposed flow.now defs.now proposed)) }
-{
-    let prepared = Prepared::of(alloc, flow, defs)?;
-    let task = prepared.task(flow, defs);
-    let faults = first_faults(alloc, task)?;
-    try_all(alloc, task, limits, faults.as_slice())
 }

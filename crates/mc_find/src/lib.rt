@@ -12,7 +12,8 @@ mod finding;
 pub mod matching;
 mod prepared;
 mod rank;
+mod searching;
 pub mod walks;
 
 pub use crate::walks::Limits;
-pub use finding::find;
+pub use searching::search;

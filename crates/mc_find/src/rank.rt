@@ -33,10 +33,14 @@ impl Rank {
         })
     }
 
+    /// Whether the faults that are told are just those that are met before anything is folded.
+    pub fn is_right(&self) -> bool {
+        self.missed == 0 && self.besides == 0
+    }
+
     /// Whether no other rank can be better but by alarms or length, or whether there is no alarm.
     pub fn is_best(&self) -> bool {
-        let is_right = self.missed == 0 && self.besides == 0;
-        self.alarms == 0 || (is_right && self.repeats == 0 && !self.is_weak)
+        self.alarms == 0 || (self.is_right() && self.repeats == 0 && !self.is_weak)
     }
 
     /// The parts, the first of them most important.

@@ -15,6 +15,7 @@ mod nearness;
 mod pairing;
 mod reach;
 mod reached;
+mod rounds;
 mod sides;
 mod style;
 mod tally;

@@ -85,7 +85,7 @@ fn analyse<'w>(alloc: Global) -> Result<Command<'w>, AllocError> {
         command,
         "rounds",
         "N",
-        "How many passes a chain of alarms has at most, up to 100",
+        "How many rounds the states of a loop may take, up to 100",
     )?;
     let command = described(
         command,

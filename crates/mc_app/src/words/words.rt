@@ -44,7 +44,7 @@ pub struct Analyse<'w> {
     pub definitions: &'w str,
     /// The function that runs begin with.
     pub start: &'w str,
-    /// How many passes are made at most, from 1 to 100.
+    /// How many rounds the states of a loop may take, from 1 to 100.
     pub rounds: u64,
     /// How many states a cut has at most, from 1 to 64.
     pub disjuncts: u64,

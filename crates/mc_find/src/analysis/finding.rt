@@ -4,9 +4,8 @@ ghost use Rattle.mc_follow.specs.Alarms.Outcomes.{IsCrowded, IsWhole};
 ghost use Rattle.mc_flow.specs.Valid.{IsValid};
 ghost use Rattle.mc_find.specs.Analysis.Findings.{HasAlarms, HasTooManyPaths, IsAnalysis, IsFound, IsProposed, IsProved, IsReported, stays, under_header};
 
-use crate::alarming::find_alarms;
 use crate::analysis::{Analysis, Findings, Proposed};
-use crate::{Limits, find};
+use crate::{Limits, search};
 use mc_base::NoMemory;
 use mc_flow::{Defs, Flow};
 use mc_follow::alarms::{Document, Outcome, alarms};
@@ -158,25 +157,15 @@ fn answered(
     }
 }
 
-// Where no certificate was found, a chain with alarms is searched for.
-fn with_alarms(
+// Where there are loops, a certificate is searched for whose cuts have so many states at most, made in so many rounds, and else
+// a chain.
+fn with_loops(
     alloc: Global,
     flow: &Flow,
     defs: &Defs,
-    limits: Limits,
+    states: usize,
+    rounds: u64,
 ) -> Result<Analysis, NoMemory>
-    requires valid { IsValid flow.now defs.now }
-    requires loops { flow.now.heads ≡ [] → ⊥ }
-    ensures { IfOk result (IsAnalysis flow.now defs.now) }
-{
-    match find_alarms(alloc, flow, defs, limits)? {
-        Some(proposed) => answered(alloc, flow, defs, proposed),
-        None => Ok(Analysis::Unknown),
-    }
-}
-
-// Where there are loops, a certificate is searched for whose cuts have so many states at most, and then a chain.
-fn with_loops(alloc: Global, flow: &Flow, defs: &Defs, states: usize) -> Result<Analysis, NoMemory>
     requires valid { IsValid flow.now defs.now }
     requires loops { flow.now.heads ≡ [] → ⊥ }
     ensures { IfOk result (IsAnalysis flow.now defs.now) }
@@ -184,24 +173,29 @@ fn with_loops(alloc: Global, flow: &Flow, defs: &Defs, states: usize) -> Result<
     let limits = Limits {
         lines: LINES,
         keys: states,
+        rounds,
     };
-    match find(alloc, flow, defs, limits)? {
-        Some(lines) => {
-            let findings = proved(alloc, flow, defs, lines.as_slice())?;
-            Ok(Analysis::Safe(findings))
-        }
-        None => with_alarms(alloc, flow, defs, limits),
+    match search(alloc, flow, defs, limits)? {
+        Some(proposed) => answered(alloc, flow, defs, proposed),
+        None => Ok(Analysis::Unknown),
     }
 }
 
-/// Analyses a flow graph. A cut has about so many states at most.
-pub fn analyse(alloc: Global, flow: &Flow, defs: &Defs, states: usize) -> Result<Analysis, NoMemory>
+/// Analyses a flow graph. A cut has about so many states at most, and an attempt walks from those that are new or have changed
+/// in so many rounds at most.
+pub fn analyse(
+    alloc: Global,
+    flow: &Flow,
+    defs: &Defs,
+    states: usize,
+    rounds: u64,
+) -> Result<Analysis, NoMemory>
     requires { IsValid flow.now defs.now }
     ensures { IfOk result (IsAnalysis flow.now defs.now) }
 {
     if flow.heads.is_empty() {
         without_loops(alloc, flow, defs)
     } else {
-        with_loops(alloc, flow, defs, states)
+        with_loops(alloc, flow, defs, states, rounds)
     }
 }

@@ -59,10 +59,12 @@ impl Attempt<'_> {
         state: &State,
         images: &[NodeId],
     ) -> Result<Way, NoMemory> {
+        let turn = self.next_turn(place);
         let Some(head) = self.heads.get_mut(place) else {
             return Ok(Way::Stuck);
         };
         head.round = head.round.saturating_add(1);
+        head.turn = turn;
         let known = state.known();
         let thresholds = self.paths.thresholds();
         let joint = joint_atoms(

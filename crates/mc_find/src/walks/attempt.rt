@@ -20,7 +20,7 @@ pub enum Outcome {
 }
 
 /// An attempt to find a document: the states of cuts so far, the branches from the entry, how far the ladder is climbed at
-/// each cut, how many lines are left, and how many earlier rounds took.
+/// each cut, how many rounds have begun there, how many lines are left, and how many it took before it began again.
 #[derive(Drop)]
 pub struct Attempt<'a> {
     pub(crate) alloc: Global,
@@ -30,6 +30,7 @@ pub struct Attempt<'a> {
     pub(crate) style: Style,
     pub(crate) limits: Limits,
     pub(crate) rungs: Vec<Rung>,
+    pub(crate) rounds: Vec<u64>,
     pub(crate) heads: Vec<Head>,
     pub(crate) entry: Walked,
     pub(crate) is_entry_stale: bool,
@@ -56,6 +57,7 @@ impl<'a> Attempt<'a> {
             style,
             limits,
             rungs: vec![in alloc; style.rung; task.cuts.len()]?,
+            rounds: vec![in alloc; 0; task.cuts.len()]?,
             heads: Vec::new(alloc),
             entry: Walked::new(alloc),
             is_entry_stale: true,
@@ -65,7 +67,7 @@ impl<'a> Attempt<'a> {
     }
 
     /// The place of a cut.
-    fn place_of(&self, cut: PointId) -> Option<usize> {
+    pub fn place_of(&self, cut: PointId) -> Option<usize> {
         for (place, own) in self.task.cuts.iter().enumerate() {
             if *own == cut {
                 return Some(place);
@@ -142,6 +144,9 @@ impl<'a> Attempt<'a> {
 
     /// Follows all branches from a head.
     fn walk_head(&mut self, place: usize) -> Result<Way, NoMemory> {
+        if !self.begin_round(place) {
+            return Ok(Way::TooLong);
+        }
         self.paths.clear();
         if !self.enter_head(place)? {
             return Ok(Way::Stuck);
@@ -178,6 +183,7 @@ impl<'a> Attempt<'a> {
     /// Follows all branches from the entry, and from heads until none has changed.
     fn grow(&mut self) -> Result<Way, NoMemory> {
         self.heads.clear();
+        self.clear_rounds();
         self.entry = Walked::new(self.alloc);
         self.is_entry_stale = true;
         for _ in 0..self.limits.lines {

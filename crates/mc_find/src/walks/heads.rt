@@ -12,8 +12,9 @@ use mc_state::RawState;
 use mc_symbolic::State;
 use std::alloc::Global;
 
-/// A state of a cut: as documents write it, and as lines change it; how often it changed; what is known of the branches
-/// from it, where these are of the state as it is now; and whether it lost what arrivals lack.
+/// A state of a cut: as documents write it, and as lines change it; how often it changed; the round of its cut in which it is
+/// walked from since it came or changed; what is known of the branches from it, where these are of the state as it is now; and
+/// whether it lost what arrivals lack.
 #[derive(Drop)]
 pub struct Head {
     pub cut: PointId,
@@ -21,6 +22,7 @@ pub struct Head {
     pub state: State,
     pub flags: Vec<(VarId, i64)>,
     pub round: u64,
+    pub turn: u64,
     pub walked: Walked,
     pub is_stale: bool,
     pub is_dropped: bool,
@@ -159,6 +161,7 @@ impl Attempt<'_> {
             state: made,
             flags: seen.flags,
             round: 1,
+            turn: self.next_round(cut),
             walked: Walked::new(self.alloc),
             is_stale: true,
             is_dropped: false,

@@ -4,7 +4,7 @@ use crate::walks::Attempt;
 use crate::walks::arriving::{Landing, jump};
 use crate::walks::common::common_of;
 use crate::walks::heads::joined;
-use crate::walks::nearness::sides_of;
+use crate::walks::nearness::{Paired, sides_of};
 use crate::walks::pairing::Pairing;
 use crate::walks::walked::Walked;
 use crate::walks::walking::Way;
@@ -73,21 +73,21 @@ impl Attempt<'_> {
     /// Lets a head take an arrival as it is: the images are read off the pairs.
     fn take(
         &mut self,
-        place: usize,
+        taker: Paired,
         state: &State,
         seen: &Seen,
     ) -> Result<Option<Landing>, NoMemory> {
-        let Some(head) = self.heads.as_slice().get(place) else {
+        let Some(head) = self.heads.as_slice().get(taker.place) else {
             return Ok(None);
         };
-        let pairing = Pairing::of(self.alloc, sides_of(head, seen))?;
-        let images = images_of(self.alloc, &pairing, seen, head.raw.kinds.len())?;
-        let Some(edges) = edges_of(self.alloc, &pairing, seen)? else {
+        let pairing = &taker.pairing;
+        let images = images_of(self.alloc, pairing, seen, head.raw.kinds.len())?;
+        let Some(edges) = edges_of(self.alloc, pairing, seen)? else {
             return Ok(None);
         };
-        let way = self.meet_head(place, state, images.as_slice(), edges.as_slice())?;
+        let way = self.meet_head(taker.place, state, images.as_slice(), edges.as_slice())?;
         Ok(Some(Landing {
-            head: place,
+            head: taker.place,
             images,
             edges,
             way,
@@ -97,17 +97,15 @@ impl Attempt<'_> {
     /// The common part of a head and an arrival. None where it is no state.
     fn common_part(
         &self,
-        place: usize,
+        near: &Paired,
         state: &State,
         seen: &Seen,
     ) -> Result<Option<State>, NoMemory> {
-        let Some(head) = self.heads.as_slice().get(place) else {
+        let Some(head) = self.heads.as_slice().get(near.place) else {
             return Ok(None);
         };
-        let sides = sides_of(head, seen);
-        let pairing = Pairing::of(self.alloc, sides)?;
-        let mut raw = common_of(self.alloc, sides, &pairing)?;
-        let pairs = state_pairs(self.alloc, &pairing, seen)?;
+        let mut raw = common_of(self.alloc, sides_of(head, seen), &near.pairing)?;
+        let pairs = state_pairs(self.alloc, &near.pairing, seen)?;
         let round = head.round.saturating_add(1);
         let thresholds = self.paths.thresholds();
         let joint = joined(
@@ -169,12 +167,13 @@ impl Attempt<'_> {
 
     /// Lets the head that goes best with an arrival become their common part. What jumped to it is followed again.
     fn lose(&mut self, cut: PointId, state: &State, seen: &Seen) -> Result<Way, NoMemory> {
-        let Some(place) = self.nearest(cut, seen)? else {
+        let Some(near) = self.nearest(cut, seen)? else {
             return Ok(Way::Stuck);
         };
-        let Some(part) = self.common_part(place, state, seen)? else {
+        let Some(part) = self.common_part(&near, state, seen)? else {
             return Ok(Way::Stuck);
         };
+        let place = near.place;
         if part.is_false() {
             return Ok(Way::Stuck);
         }
@@ -197,8 +196,8 @@ impl Attempt<'_> {
         if let Some(place) = self.head_like(cut, seen, None) {
             return Ok(Some(self.land(place, state, seen)?));
         }
-        if let Some(place) = self.taker(cut, seen, false)? {
-            return self.take(place, state, seen);
+        if let Some(taker) = self.taker(cut, seen, false)? {
+            return self.take(taker, state, seen);
         }
         if self.heads_at(cut) >= self.style.heads {
             self.drop_unreached(cut, fresh)?;
@@ -207,7 +206,7 @@ impl Attempt<'_> {
             return Ok(None);
         }
         match self.taker(cut, seen, true)? {
-            Some(place) => self.take(place, state, seen),
+            Some(taker) => self.take(taker, state, seen),
             None => Ok(None),
         }
     }

@@ -44,25 +44,37 @@ pub fn sides_of<'a>(head: &'a Head, seen: &'a Seen) -> Sides<'a> {
     }
 }
 
+/// A head with its place, and which of its nodes and edges go with which of an arrival.
+#[derive(Drop)]
+pub struct Paired {
+    pub place: usize,
+    pub pairing: Pairing,
+}
+
 impl Attempt<'_> {
-    /// How well a head goes with an arrival.
-    fn compare(&self, head: &Head, seen: &Seen) -> Result<Nearness, NoMemory> {
+    /// How well a head goes with an arrival, and what of it goes with what.
+    fn compare(&self, head: &Head, seen: &Seen) -> Result<(Nearness, Pairing), NoMemory> {
         let sides = sides_of(head, seen);
         let pairing = Pairing::of(self.alloc, sides)?;
-        Ok(Nearness {
+        let near = Nearness {
             flags_differ: head.flags.as_slice() != seen.flags.as_slice(),
             distance: distance_of(self.alloc, sides, &pairing)?,
-        })
+        };
+        Ok((near, pairing))
     }
 
-    /// Whether a head that has lost something takes an arrival as it is. Its flags are the arrival's, or some of them where
-    /// this is asked.
-    fn takes(&self, head: &Head, seen: &Seen, by_some: bool) -> Result<bool, NoMemory> {
+    /// What goes with what, where a head that has lost something takes an arrival as it is. Its flags are the arrival's, or
+    /// some of them where this is asked.
+    fn takes(&self, head: &Head, seen: &Seen, by_some: bool) -> Result<Option<Pairing>, NoMemory> {
         if !head.is_weak || !are_flags_of(head.flags.as_slice(), seen.flags.as_slice()) {
-            return Ok(false);
+            return Ok(None);
         }
-        let near = self.compare(head, seen)?;
-        Ok(near.distance.lost == 0 && (by_some || !near.flags_differ))
+        let (near, pairing) = self.compare(head, seen)?;
+        if near.distance.lost == 0 && (by_some || !near.flags_differ) {
+            Ok(Some(pairing))
+        } else {
+            Ok(None)
+        }
     }
 
     /// The first head of a cut that has lost something and takes an arrival as it is.
@@ -71,31 +83,35 @@ impl Attempt<'_> {
         cut: PointId,
         seen: &Seen,
         by_some: bool,
-    ) -> Result<Option<usize>, NoMemory> {
+    ) -> Result<Option<Paired>, NoMemory> {
         for (place, head) in self.heads.as_slice().iter().enumerate() {
-            if head.is_of(cut) && self.takes(head, seen, by_some)? {
-                return Ok(Some(place));
+            if head.is_of(cut) {
+                if let Some(pairing) = self.takes(head, seen, by_some)? {
+                    return Ok(Some(Paired { place, pairing }));
+                }
             }
         }
         Ok(None)
     }
 
     /// The head of a cut that goes best with an arrival.
-    pub fn nearest(&self, cut: PointId, seen: &Seen) -> Result<Option<usize>, NoMemory> {
-        let mut best: Option<(usize, Nearness)> = None;
+    pub fn nearest(&self, cut: PointId, seen: &Seen) -> Result<Option<Paired>, NoMemory> {
+        let mut best: Option<Paired> = None;
+        let mut least: Option<Nearness> = None;
         for (place, head) in self.heads.as_slice().iter().enumerate() {
             if !head.is_of(cut) {
                 continue;
             }
-            let near = self.compare(head, seen)?;
-            let is_best = match best {
-                Some(found) => is_nearer(near, found.1),
+            let (near, pairing) = self.compare(head, seen)?;
+            let is_best = match least {
+                Some(found) => is_nearer(near, found),
                 None => true,
             };
             if is_best {
-                best = Some((place, near));
+                best = Some(Paired { place, pairing });
+                least = Some(near);
             }
         }
-        Ok(best.map(|found| found.0))
+        Ok(best)
     }
 }

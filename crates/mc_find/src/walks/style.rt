@@ -4,11 +4,13 @@ use mc_base::{PointId, PredId};
 use mc_find_view::live::Asserted;
 use mc_find_view::sight::Sight;
 
-/// How much an attempt may take: lines in all, and states of a cut.
+/// How much an attempt may take each time it begins: lines in all, states of a cut, and rounds of a cut. A round of a cut is
+/// one walk from its states that are new or have changed; what comes or changes meanwhile waits for the next round.
 #[derive(Clone, Copy, Debug, PartialEq, Eq)]
 pub struct Limits {
     pub lines: u64,
     pub keys: usize,
+    pub rounds: u64,
 }
 
 /// What an attempt is for.

@@ -136,13 +136,13 @@ impl StoredFields {
         Ok(StoredFields { fields, dead })
     }
 
-    /// Whether from a point on the field is stored through the variable before it can be read.
-    pub fn is_dead(&self, point: usize, field: StoredField) -> bool {
-        for (place, each) in self.fields.as_slice().iter().enumerate() {
-            if *each == field {
-                return self.dead.has(point, place);
-            }
-        }
-        false
+    /// The fields that are stored, each once.
+    pub fn fields(&self) -> &[StoredField] {
+        self.fields.as_slice()
+    }
+
+    /// Whether from a point on the field at a place of the list is stored through its variable before it can be read.
+    pub fn is_dead(&self, point: usize, place: usize) -> bool {
+        self.dead.has(point, place)
     }
 }

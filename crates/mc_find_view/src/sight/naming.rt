@@ -1,7 +1,6 @@
 // Which nodes an edge names, as far as they still count.
-use crate::live::StoredField;
 use crate::sight::Sight;
-use mc_base::{NodeId, PointId, StructId, VarId};
+use mc_base::{NodeId, PointId, StructId};
 use mc_state::graph::Edge;
 use mc_symbolic::State;
 
@@ -14,16 +13,13 @@ pub fn is_dead_field(
     shape: StructId,
     field: usize,
 ) -> bool {
-    for place in 0..state.env().len() {
-        let x = VarId(place as u64);
-        let stored = StoredField {
-            base: x,
-            shape,
-            field: field as u64,
-        };
-        if let Some(node) = sight.live_node(state, point, x) {
-            if sight.stored.is_dead(point.0 as usize, stored) && state.are_equal(node, at) {
-                return true;
+    for (place, stored) in sight.stored.fields().iter().enumerate() {
+        let is_own = stored.shape == shape && stored.field == field as u64;
+        if is_own && sight.stored.is_dead(point.0 as usize, place) {
+            if let Some(node) = sight.live_node(state, point, stored.base) {
+                if state.are_equal(node, at) {
+                    return true;
+                }
             }
         }
     }
