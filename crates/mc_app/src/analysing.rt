@@ -51,8 +51,13 @@ fn analyse_bound(alloc: Global, names: Analyse<'_>, bound: &Bound) -> Result<Ana
     let defs = bound.defs();
     match graph(alloc, bound)? {
         Ok(lowered) => {
-            let states = names.disjuncts as usize;
-            let found = analyse(alloc, &lowered.flow, defs, states, names.rounds)?;
+            let found = analyse(
+                alloc,
+                &lowered.flow,
+                defs,
+                names.disjuncts as usize,
+                names.rounds,
+            )?;
             Ok(Analysed::Found(found))
         }
         Err(_) => Ok(Analysed::TooLong),

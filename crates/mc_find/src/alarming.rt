@@ -29,10 +29,10 @@ const fn losing(step: Step, heads: usize) -> Style {
     }
 }
 
-/// How an attempt folds that climbs the ladder, and keeps blocks so many fields before live variables' nodes.
-const fn climbing(before: usize) -> Style {
+/// How an attempt folds that climbs the ladder.
+const fn climbing() -> Style {
     Style {
-        before,
+        before: 0,
         room: 0,
         rung: first_rung(Step::Plain),
         heads: 4,
@@ -40,7 +40,7 @@ const fn climbing(before: usize) -> Style {
 }
 
 /// How the attempts fold, in their order.
-const fn styles() -> [Style; 8] {
+const fn styles() -> [Style; 7] {
     [
         losing(Step::Plain, 8),
         losing(Step::Coarse, 8),
@@ -48,8 +48,7 @@ const fn styles() -> [Style; 8] {
         losing(Step::Coarse, 4),
         losing(Step::Coarse, 2),
         losing(Step::Coarse, 1),
-        climbing(0),
-        climbing(1),
+        climbing(),
     ]
 }
 
@@ -187,8 +186,8 @@ fn is_right(best: &Option<Offer>) -> bool {
     }
 }
 
-/// Whether an attempt of this style may tell better. Those that climb the ladder take long, and are made where nothing is
-/// right so far.
+/// Whether an attempt of this style may tell better. The one that climbs the ladder takes long, and is made where nothing
+/// is right so far.
 fn is_needed(style: &Style, best: &Option<Offer>, faults: &[Blocked]) -> bool {
     !is_settled(best, faults) && (style.rung.loses || !is_right(best))
 }

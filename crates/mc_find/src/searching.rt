@@ -37,7 +37,9 @@ fn more_certificates(
 /// The attempts at a program: certificates first, then chains.
 fn search_task(alloc: Global, task: Task<'_>, limits: Limits) -> Result<Option<Proposed>, NoMemory>
     requires { IsValid task.sight.flow.now task.sight.defs.now }
-    ensures { IfOk result (λ found. IfSome found (λ proposed. IsProposed task.entry.sight.flow.now task.entry.sight.defs.now proposed)) }
+    ensures { IfOk result
+        (λ found. IfSome found
+        (λ proposed. IsProposed task.entry.sight.flow.now task.entry.sight.defs.now proposed)) }
 {
     let mut left = lines_in_all(limits);
     if let Some(lines) = first_certificate(alloc, task, limits, &mut left)? {
