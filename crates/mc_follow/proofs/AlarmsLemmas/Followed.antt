@@ -68,9 +68,13 @@ pub alarm_more : (flow : Flow) (defs : List Def) (alarms : List Alarm) (a : Alar
     → IsAlarmLine flow defs a.0.point a.0.state line → AreAlarmLines flow defs (alarms ++ a ∷ []) (text ++ (line ++ real_line a.1))
 alarm_more flow defs [] a text line none is =
     (line, [], is, refl, ap (λ (t : List ℕ). t ++ (line ++ real_line a.1)) none ∙ sym (append-nil (line ++ real_line a.1)))
-alarm_more flow defs (c ∷ alarms) a text line (own, later, is_own, rest, spelled) is =
-    (own, later ++ (line ++ real_line a.1), is_own, alarm_more flow defs alarms a later line rest is,
-    ap (λ (t : List ℕ). t ++ (line ++ real_line a.1)) spelled ∙ append_assoc (own ++ real_line c.1) later (line ++ real_line a.1))
+alarm_more flow defs (c ∷ alarms) a text line (own, later, is_own, rest, spelled) is = (
+  own,
+  later ++ (line ++ real_line a.1),
+  is_own,
+  alarm_more flow defs alarms a later line rest is,
+  ap (λ (t : List ℕ). t ++ (line ++ real_line a.1)) spelled ∙ append_assoc (own ++ real_line c.1) later (line ++ real_line a.1),
+)
 
 module _ (laws : DocumentsAreFollowed) (flow : Flow) (defs : List Def) (valid : IsValid flow defs) where
   module _ (k : Knowledge) (well : RawState → Bool) (judge : IsJudge k well flow defs) where
