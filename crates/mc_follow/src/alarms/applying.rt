@@ -4,8 +4,8 @@ ghost use Rattle.mc_follow.specs.Alarms.Outcomes.{IsOnward};
 ghost use Rattle.mc_follow.specs.Alarms.Walks.{AreCovered, IsAtCode, IsFirstGone, IsMet, IsNowhere, IsSure, IsTurned, IsWalk, MayApply, ending, goes_on};
 ghost use Rattle.mc_flow.specs.Valid.{IsValid};
 
-use crate::alarms::laws::{branches_are_followed, documents_are_followed};
 use crate::alarms::coming::sum;
+use crate::alarms::laws::{branches_are_followed, documents_are_followed};
 use crate::alarms::lines::{ending, goes_on};
 use crate::alarms::mark::mark;
 use crate::alarms::tracks::Tracks;
@@ -30,6 +30,7 @@ impl<'f> Walk<'f> {
         documents_are_followed();
         branches_are_followed();
         let mut proof = Proof::start(alloc, flow, defs, Form::Chain);
+        let tracks = Tracks::entry(alloc)?;
         let mut lines = Vec::new(alloc);
         lines.push(Line::Header(Version::One, Form::Chain))?;
         lines.push(Line::Pass)?;
@@ -37,7 +38,7 @@ impl<'f> Walk<'f> {
             Ok(()) => Ok(Walk {
                 alloc,
                 proof,
-                tracks: Tracks::entry(alloc)?,
+                tracks,
                 lines,
                 text: Vec::new(alloc),
                 ended: 0,
@@ -128,7 +129,7 @@ impl<'f> Walk<'f> {
         match self.proof.apply(&Line::C1) {
             Ok(()) => {
                 self.ended = ended;
-                let _ended = self.tracks.pop();
+                self.tracks.pop();
                 self.lines.push(Line::C1)?;
                 self.text.extend_from_slice(line.as_slice())?;
                 Ok(true)
