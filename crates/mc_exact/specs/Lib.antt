@@ -2,4 +2,5 @@ pub mod Least
 pub mod Exact
 pub mod Real
 pub mod Tracks
+pub mod Scripts
 pub mod Examples

@@ -1,1 +1,2 @@
 pub mod ClosedAlarms
+mod ScriptLines

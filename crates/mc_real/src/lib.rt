@@ -5,5 +5,7 @@
 #![tactic(auto)]
 
 mod laws;
+mod scripts;
 
 pub use laws::closed_alarms_are_real;
+pub use scripts::malloc_scripts_are_taken;
