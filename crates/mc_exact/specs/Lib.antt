@@ -3,4 +3,5 @@ pub mod Exact
 pub mod Real
 pub mod Tracks
 pub mod Scripts
+pub mod Made
 pub mod Examples

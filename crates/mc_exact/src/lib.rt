@@ -8,9 +8,11 @@
 mod closed;
 mod examples;
 mod laws;
+mod made;
 mod picks;
 
 pub use closed::asks_malloc_alone;
 pub use examples::freed_is_read;
 pub use laws::{alarms_are_real, least_valuations_are_true, tracks_stay_exact};
+pub use made::exact_states_are_well_made;
 pub use picks::{answers, least};

@@ -1,2 +1,3 @@
 pub mod ClosedAlarms
 mod ScriptLines
+mod Marked

@@ -1,8 +1,8 @@
 -- The written lines of scripts are read as what they say.
-use Rattle.std.proofs.Common.{◌≡◌, ◌∙◌, ◌<◌, ◌^◌, ℕ, List, [], ◌∷◌, ◌++◌, All, Some, map, refl, sym, ap, append-nil, lit≤}
+use Rattle.std.proofs.Common.{◌≡◌, ◌∙◌, ◌<◌, ◌^◌, ℕ, List, [], ◌∷◌, ◌++◌, Some, map, refl, sym, ap, append-nil, lit≤}
+use Rattle.std.specs.List.{AllByRecursion}
 use Rattle.std.specs.Prelude.{IsUtf8, codes, decimal, option_and_then}
 use Rattle.std.proofs.lemmas.Fmt.{IsAscii-decimal}
-use Rattle.std.proofs.lemmas.List.Elements.{All-head, All-tail}
 use Rattle.std.proofs.lemmas.Str.{IsUtf8-append, IsUtf8-from_ascii}
 use Rattle.json.specs.Json.{if_last, value}
 use Rattle.json.specs.Lex.{tokens}
@@ -62,9 +62,6 @@ utf8 n small =
 spelled : (n : ℕ) → n < 2 ^ 64 → SpellsLine (malloc_line n) (Malloc n)
 spelled n small = (malloc_data n, (utf8 n small, reads n small), refl, tt)
 
-pub scripts_taken : (structs : List StructInfo) (answers : List ℕ) → All (λ answer. answer < 2 ^ 64) answers → Takes structs (malloc_lines answers) (map malloc answers) []
+pub scripts_taken : (structs : List StructInfo) (answers : List ℕ) → AllByRecursion (λ answer. answer < 2 ^ 64) answers → Takes structs (malloc_lines answers) (map malloc answers) []
 scripts_taken structs [] small = refl
-scripts_taken structs (n ∷ answers) small = (
-  (Malloc n, spelled n (All-head (λ (k : ℕ). k < 2 ^ 64) n answers small), refl),
-  scripts_taken structs answers (All-tail (λ (k : ℕ). k < 2 ^ 64) n answers small),
-)
+scripts_taken structs (n ∷ answers) small = ((Malloc n, spelled n small.0, refl), scripts_taken structs answers small.1)

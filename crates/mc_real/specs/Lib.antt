@@ -1,2 +1,3 @@
 pub mod Real
 pub mod Scripts
+pub mod Marked

@@ -1,0 +1,53 @@
+-- Alarms that carry answers of malloc are real.
+use Rattle.std.proofs.Common.{◌≡◌, ◌≤◌, ◌<◌, ◌^◌, ℕ, List, [], ◌∷◌, map, sym, subst, arith}
+use Rattle.std.specs.List.{AllByRecursion}
+use Rattle.mc_flow.specs.Heap.Choices.{malloc}
+use Rattle.mc_flow.specs.Runs.{fault, Reaches}
+use Rattle.mc_flow.specs.Valid.{IsValid}
+use Rattle.mc_flow.specs.declared.defs.rules.Def.{Def}
+use Rattle.mc_flow.specs.declared.graph.Flow.{Flow}
+use Rattle.mc_c_syntax.specs.Ast.Trees.{UnitTree}
+use Rattle.mc_c_types.specs.Tables.{struct_infos}
+use Rattle.mc_semantics.specs.Steps.{Step, program_of, start}
+use Rattle.mc_lower_spec.specs.Graphs.{Graph}
+use Rattle.mc_state.specs.Known.{Test, Tells}
+use Rattle.mc_kernel.specs.Branches.{Path}
+use Rattle.mc_kernel.specs.Oracle.Judges.{JudgesAreThere}
+use Rattle.mc_exact.specs.Exact.{Picks}
+use Rattle.mc_exact.specs.Made.{ExactStatesAreWellMade}
+use Rattle.mc_exact.specs.Real.{answered}
+use Rattle.mc_exact.specs.Scripts.{malloc_lines}
+use Rattle.mc_exact.specs.Tracks.{IsExactTrack}
+use Rattle.mc_run.specs.Interpret.Faults.{FaultsAreAnswered}
+use Rattle.mc_real.specs.Marked.{MarkedAlarmsAreReal}
+use Rattle.mc_real.specs.Real.{ExactAlarmsAreReached}
+use Rattle.mc_real.specs.Scripts.{MallocScriptsAreTaken}
+
+-- something tells what is known at the end of an exact branch
+known : JudgesAreThere → ExactStatesAreWellMade → (flow : Flow) (defs : List Def) (b : Path) (picks : Picks) → IsValid flow defs → IsExactTrack flow (b, picks) → (know : Test) × Tells know b.state
+known judges made flow defs b picks valid exact =
+    let judge = judges flow defs valid in
+    (judge.0.know b.state, (judge.2.asked b (made flow defs (b, picks) valid exact)).given.tells)
+
+-- small answers have 64 bits
+all_small : (answers : List ℕ) → AllByRecursion (λ n. n ≤ 30000) answers → AllByRecursion (λ n. n < 2 ^ 64) answers
+all_small [] small = tt
+all_small (n ∷ answers) small = (let le = small.0 in omega arith, all_small answers small.1)
+
+pub marked_alarms : JudgesAreThere → ExactStatesAreWellMade → ExactAlarmsAreReached → MallocScriptsAreTaken → FaultsAreAnswered → MarkedAlarmsAreReal
+marked_alarms judges made reached taken interpreted entry unit defs g b answers is mark =
+    let k = known judges made g.flow defs b mark.picks is.valid mark.track in
+    let run = reached unit entry defs g b mark.picks k.0 mark.gap is mark.track k.1 mark.unmet (λ pred n e. mark.other (pred, n, e)) in
+    let there = subst (λ (l : List ℕ). Reaches (Step (program_of unit defs)) run.2 (start (program_of unit defs) is.begins) (map malloc l) (fault run.1 run.0.place)) (sym (mark.answers_are k.0 k.1)) run.5 in
+    let few = run.4 in
+    record {
+      point = run.0;
+      is_its = run.3;
+      kind = run.1;
+      f = is.begins;
+      called = is.called;
+      steps = run.2;
+      faults = there;
+      answered = λ fuel ending enough runs. interpreted unit entry defs is.begins answers (malloc_lines answers) run.2 fuel run.1 run.0.place ending is.typed is.called there (omega arith)
+      (taken (struct_infos unit) answers (all_small answers mark.small)) runs;
+    }
