@@ -1,4 +1,4 @@
--- A small program that reads what it freed, and its two branches to the read.
+-- A small program that reads what it freed, its two branches to the read, and its chain, in which both are stuck.
 use Rattle.std.specs.Prelude.{true, Some, None, List, [], ◌∷◌}
 use Rattle.mc_base.specs.declared.plain.Kind.TheVariants.{Int, Ptr}
 use Rattle.mc_base.specs.declared.plain.VarInfo.{VarInfo}
@@ -11,8 +11,14 @@ use Rattle.mc_flow.specs.declared.instr.Operand.TheVariants.{Var}
 use Rattle.mc_pure.specs.Examples.{node}
 use Rattle.mc_pure.specs.Pure.{address_atom}
 use Rattle.mc_state.specs.State.{State, unknown, with_var}
+use Rattle.mc_lines.specs.declared.cert.line.Line.{Line}
+use Rattle.mc_lines.specs.declared.cert.line.Line.TheVariants as line
+use Rattle.mc_state.specs.declared.line.Form.TheVariants.{Chain}
+use Rattle.mc_state.specs.declared.line.InstrRule.TheVariants.{S10, S11, S12}
+use Rattle.mc_state.specs.declared.line.Version.TheVariants.{One}
 use Rattle.mc_kernel.specs.Branches.{path_to}
 use Rattle.mc_kernel.specs.Examples.{at, flow_of, var}
+use Rattle.mc_exact.specs.Marks.{Alarm}
 use Rattle.mc_exact.specs.Tracks.{Track}
 
 -- struct cell *p = malloc(sizeof(struct cell)); free(p); int d = p->data;
@@ -57,3 +63,20 @@ null_track = (path_to (at 2) null_state None, None ∷ [])
 -- and the one on which it answered a new block
 abbrev pub freed_track : Track
 freed_track = (path_to (at 2) freed_state None, Some (node 1) ∷ [])
+
+-- its chain: on each branch the free is passed, and the read is stuck
+abbrev pub freed_chain : List Line
+freed_chain =
+    line.Header One Chain
+    ∷ line.Pass
+    ∷ line.Step S10
+    ∷ line.Step S11
+    ∷ line.C1
+    ∷ line.Step S12
+    ∷ line.C1
+    ∷ line.End
+    ∷ []
+
+-- its alarms: malloc answers null, and it answers the first address
+abbrev pub freed_alarms : List Alarm
+freed_alarms = (null_track.0, Some (0 ∷ [])) ∷ (freed_track.0, Some (1 ∷ [])) ∷ []

@@ -1,5 +1,5 @@
 -- What is found of a flow graph.
-use Rattle.std.specs.Prelude.{◌≡◌, ◌<◌, ◌≤◌, ℕ, Bool, true, false, List, [], ◌∷◌, length}
+use Rattle.std.specs.Prelude.{◌≡◌, ◌<◌, ◌≤◌, ℕ, Bool, true, false, List, [], ◌∷◌, length, map}
 use Rattle.std.specs.List.{filter}
 use Rattle.mc_lines.specs.declared.cert.line.Line.{Line}
 use Rattle.mc_lines.specs.declared.cert.line.Line.TheVariants as line
@@ -15,6 +15,7 @@ use Rattle.mc_state.specs.declared.line.Version.TheVariants.{One}
 use Rattle.mc_kernel.specs.Branches.{Path}
 use Rattle.mc_kernel.specs.Certificates.{IsValidCertificate}
 use Rattle.mc_kernel.specs.Reading.Documents.{IsShortChain}
+use Rattle.mc_exact.specs.Marks.{Alarm, AreMarked, unmarked}
 use Rattle.mc_follow.specs.Report.Report.{IsCertificateReport, IsChainReport}
 use Rattle.mc_follow.specs.declared.report.chains.ChainReport.{ChainReport}
 use Rattle.mc_find.specs.declared.analysis.analysis.Analysis.{Analysis}
@@ -39,13 +40,13 @@ pub record IsFoundChain (flow : Flow) (defs : List Def) (lines : List Line) : Ty
   pub within : ended_by lines ≤ 65536
   pub places : HasPlaces flow defs forms.Chain lines
 
--- the lines are such a chain, and the report is that of its heads and its stuck branches, of which there are so many
+-- the lines are such a chain, and the report is that of its heads and its stuck branches, unmarked, of which there are so many
 pub record IsReported (flow : Flow) (defs : List Def) (lines : List Line) (r : ChainReport) : Type 0 where
   pub stuck : List Path
   pub chain : IsShortChain flow defs lines stuck
   pub within : ended_by lines ≤ 65536
   pub places : HasPlaces flow defs forms.Chain lines
-  pub report : IsChainReport flow defs chain.heads stuck r.text.items
+  pub report : IsChainReport flow defs chain.heads (map unmarked stuck) r.text.items
   pub counted : r.count ≡ length stuck
   pub some : 0 < r.count
 
@@ -64,15 +65,19 @@ pub record IsProved (flow : Flow) (defs : List Def) (f : Findings) : Type 0 wher
   pub report : IsCertificateReport flow defs valid.heads f.report.items
 
 -- the document spells a chain of one pass with so many stuck branches, of which no more than 65,536 branches are ended, with the
--- loop heads as its cuts, and the report is that of its heads and the stuck branches
+-- loop heads as its cuts, and the report is that of its heads and the stuck branches, which are marked where there are no loops
 pub record HasAlarms (flow : Flow) (defs : List Def) (f : Findings) (count : ℕ) : Type 0 where
   pub lines : List Line
   pub stuck : List Path
+  pub alarms : List Alarm
+  pub stuck_are : stuck ≡ map (λ a. a.0) alarms
   pub spelled : SpellAll (lines_of f.document.items) lines
   pub chain : IsShortChain flow defs lines stuck
   pub within : ended_by lines ≤ 65536
   pub places : HasPlaces flow defs forms.Chain lines
-  pub report : IsChainReport flow defs chain.heads stuck f.report.items
+  pub marked : flow.heads ≡ [] → AreMarked flow defs lines alarms
+  pub not_marked : (flow.heads ≡ [] → ⊥) → alarms ≡ map unmarked stuck
+  pub report : IsChainReport flow defs chain.heads alarms f.report.items
   pub counted : count ≡ length stuck
   pub some : 0 < count
 

@@ -1,5 +1,5 @@
 -- What comes of following a program.
-use Rattle.std.specs.Prelude.{◌≡◌, ◌<◌, ◌≤◌, ◌++◌, Bool, List, [], ◌∷◌, length}
+use Rattle.std.specs.Prelude.{◌≡◌, ◌<◌, ◌≤◌, ◌++◌, Bool, List, [], ◌∷◌, length, map}
 use Rattle.mc_lines.specs.declared.cert.line.Line.{Line}
 use Rattle.mc_lines.specs.declared.cert.line.Line.TheVariants.{Header}
 use Rattle.mc_flow.specs.declared.defs.rules.Def.{Def}
@@ -10,6 +10,7 @@ use Rattle.mc_state.specs.declared.raw_state.RawState.{RawState}
 use Rattle.mc_kernel.specs.Branches.{Path}
 use Rattle.mc_kernel.specs.Judges.{Knowledge}
 use Rattle.mc_kernel.specs.Reading.Documents.{IsJudge, IsOpen, IsShortChain}
+use Rattle.mc_exact.specs.Marks.{Alarm, AreMarked}
 use Rattle.mc_follow.specs.Report.Report.{IsChainReport}
 use Rattle.mc_follow.specs.declared.alarms.outcome.Document.{Document}
 use Rattle.mc_follow.specs.declared.alarms.outcome.Outcome.{Outcome}
@@ -18,11 +19,14 @@ use Rattle.mc_follow.specs.declared.alarms.walk.Walk.{Walk}
 use Rattle.mc_follow.specs.Alarms.Walks.{IsWalk, ended_by}
 use Rattle.mc_document.specs.Places.{HasPlaces}
 
--- the lines are a chain of one pass with so many stuck branches, and the text is its report
+-- the lines are a chain of one pass with so many stuck branches, and the text is its report, with their marks
 pub record IsWhole (flow : Flow) (defs : List Def) (d : Document) : Type 0 where
   pub stuck : List Path
+  pub alarms : List Alarm
+  pub stuck_are : stuck ≡ map (λ a. a.0) alarms
   pub chain : IsShortChain flow defs d.lines.items stuck
-  pub report : IsChainReport flow defs chain.heads stuck d.text.items
+  pub marked : AreMarked flow defs d.lines.items alarms
+  pub report : IsChainReport flow defs chain.heads alarms d.text.items
   pub counted : d.count ≡ length stuck
   pub within : ended_by d.lines.items ≤ 65536
   pub places : HasPlaces flow defs Chain d.lines.items

@@ -29,6 +29,8 @@ use Rattle.mc_kernel.specs.Progress.Progress.{IsInside, advances}
 use Rattle.mc_document.specs.Places.{AreInPlace, cuts_of, may_stand}
 use Rattle.mc_document.specs.Proof.Lines.{setting_at}
 use Rattle.mc_document.specs.Proof.Positions.{Position, Stands}
+use Rattle.mc_exact.specs.Exact.{Picks}
+use Rattle.mc_exact.specs.Marks.{Alarm, Branch, Tracked}
 use Rattle.mc_follow.specs.Report.Heads.{heads_of}
 use Rattle.mc_follow.specs.Report.Report.{AreAlarmLines}
 use Rattle.mc_state.specs.declared.goal.Goal.{Goal}
@@ -92,37 +94,51 @@ AreCovered defs branches = AllByRecursion (λ b. (goal : Goal) → b.goal ≡ So
 
 -- ---- walks
 
--- whoever judges rightly, the lines after the header are read up to here, and the text is the lines of the stuck branches
+-- whoever judges rightly, the lines after the header are read up to here, and these branches are stuck
 pub record IsReadTo (k : Knowledge) (well : RawState → Bool) (flow : Flow) (defs : List Def) (lines : List Line) (p : Position)
-    (text : List ℕ) : Type 0 where
+    (stuck : List Path) : Type 0 where
   pub last : Reading
   pub read : reading_document k well flow defs Chain lines ≡ Ok last
   pub stands : Stands k well last p
-  pub alarms : AreAlarmLines flow defs last.stuck text
+  pub stuck_are : last.stuck ≡ stuck
+
+-- of these lines of rules come the branches that are open, with these tracks, and these alarms
+pub record IsMarkedTo (flow : Flow) (defs : List Def) (rules : List Line) (branches : List Path) (tracks : List (Option Picks))
+    (alarms : List Alarm) : Type 0 where
+  pub is_open : List Branch
+  pub branches_are : branches ≡ map (λ b. b.0) is_open
+  pub tracks_are : tracks ≡ map (λ b. b.1) is_open
+  pub tracked : Tracked flow defs rules is_open alarms
 
 -- the lines are those of a chain of a valid flow graph without loops, without heads, each where it may stand, which is read up to
--- here after its pass, with so many ended branches, which are not too many
-pub record IsFollowed (flow : Flow) (defs : List Def) (lines : List Line) (p : Position) (text : List ℕ) (ended : ℕ) : Type 0 where
+-- here after its pass, with so many ended branches, which are not too many, and these tracks of the open ones; the text is the
+-- lines of its alarms
+pub record IsFollowed (flow : Flow) (defs : List Def) (lines : List Line) (p : Position) (text : List ℕ) (ended : ℕ)
+    (tracks : List (Option Picks)) : Type 0 where
   pub valid : IsValid flow defs
-  pub behind : List Line
-  pub spelled : lines ≡ line.Header One Chain ∷ behind
+  pub rules : List Line
+  pub spelled : lines ≡ line.Header One Chain ∷ line.Pass ∷ rules
   pub of_flow : p.flow ≡ flow
   pub of_defs : p.defs ≡ defs
   pub ruled : p.stage ≡ ruling
-  pub reads : (k : Knowledge) (well : RawState → Bool) → IsJudge k well flow defs → IsReadTo k well flow defs behind p text
+  pub alarms : List Alarm
+  pub told : AreAlarmLines flow defs alarms text
+  pub marked : IsMarkedTo flow defs rules p.branches tracks alarms
+  pub reads : (k : Knowledge) (well : RawState → Bool) → IsJudge k well flow defs → IsReadTo k well flow defs (line.Pass ∷ rules) p (map (λ a. a.0) alarms)
   pub counted : ended ≡ ended_by lines
   pub within : ended ≤ 65536
   pub no_loops : flow.heads ≡ []
   pub uncut : cuts_of lines ≡ []
   pub unheaded : heads_of lines ≡ []
-  pub in_place : (k : Knowledge) (well : RawState → Bool) → IsJudge k well flow defs → AreInPlace k well flow defs behind (begun Chain)
+  pub in_place : (k : Knowledge) (well : RawState → Bool) → IsJudge k well flow defs → AreInPlace k well flow defs (line.Pass ∷ rules) (begun Chain)
   pub form_is : p.form ≡ Chain
   pub no_cuts : p.cuts ≡ []
+  pub no_heads : p.heads ≡ []
   pub open_are : AreOpen flow p.branches
 
 -- a walk has followed its lines
 abbrev pub IsWalk : Flow → List Def → Walk → Type 0
-IsWalk flow defs walk = IsFollowed flow defs walk.lines.items walk.proof walk.text.items walk.ended
+IsWalk flow defs walk = IsFollowed flow defs walk.lines.items walk.proof walk.text.items walk.ended walk.tracks
 
 -- ---- the first open branch
 

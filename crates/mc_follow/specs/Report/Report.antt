@@ -1,5 +1,5 @@
 -- What a report says.
-use Rattle.std.specs.Prelude.{◌≡◌, ◌++◌, ◌∷◌, ℕ, true, false, List, [], Option, Some, None, codes, length, option_map, option_and_then, slice_get, unwrap_or}
+use Rattle.std.specs.Prelude.{◌≡◌, ◌++◌, ◌∷◌, ℕ, true, false, List, [], Option, Some, None, codes, flat_map, length, option_map, option_and_then, slice_get, unwrap_or}
 use Rattle.std.specs.Fmt.{decimal}
 use Rattle.mc_base.specs.declared.ids.PointId.{PointId}
 use Rattle.mc_base.specs.declared.ids.StructId.{StructId}
@@ -16,8 +16,10 @@ use Rattle.mc_rules_steps.specs.declared.gap.Gap.{Gap}
 use Rattle.mc_rules_steps.specs.declared.gap.Gap.TheVariants.{Uninit, NoBlock, Reached, NoShape, UninitField, NotEmpty}
 use Rattle.mc_rules_steps.specs.Operands.{code_at}
 use Rattle.mc_rules_steps.specs.Unmet.{IsUnmet}
-use Rattle.mc_kernel.specs.Branches.{Path, states_at}
+use Rattle.mc_kernel.specs.Branches.{states_at}
 use Rattle.mc_kernel.specs.Certificates.{WrittenHead, states_of}
+use Rattle.mc_exact.specs.Marks.{Alarm}
+use Rattle.mc_exact.specs.Scripts.{malloc_line}
 
 -- the place of a point's instruction
 abbrev pub point_text : Flow → PointId → Text
@@ -60,6 +62,16 @@ pub record IsAlarmLine (flow : Flow) (defs : List Def) (p : PointId) (s : State)
   pub state_is : IsTextOf flow.vars defs flow.structs.list s state
   pub spelled : line ≡ alarm_line flow defs p gap state
 
+-- the lines of a script in which malloc gives these answers, a blank before each; or that there is none
+abbrev pub script_text : List ℕ → Text
+script_text [] = codes " -"
+script_text (n ∷ answers) = flat_map (λ k. codes " " ++ malloc_line k) (n ∷ answers)
+
+-- the line of a mark: the script on which the program faults there
+abbrev pub real_line : Option (List ℕ) → Text
+real_line None = []
+real_line (Some answers) = codes "real:" ++ script_text answers ++ codes "\n"
+
 -- the line of a state of a cut: its place, its number at the cut, and itself
 abbrev pub head_line : Flow → PointId → ℕ → Text → Text
 head_line flow p number state = codes "at " ++ point_text flow p ++ codes " #" ++ decimal number ++ codes ": " ++ state ++ codes "\n"
@@ -72,12 +84,12 @@ pub record IsHeadLine (flow : Flow) (defs : List Def) (number : ℕ) (h : Writte
 
 -- ---- whole reports
 
--- the text is the lines of these stuck branches, in order
-abbrev pub AreAlarmLines : Flow → List Def → List Path → Text → Type 0
+-- the text is the lines of these alarms, in order, each with that of its mark
+abbrev pub AreAlarmLines : Flow → List Def → List Alarm → Text → Type 0
 AreAlarmLines flow defs [] text = text ≡ []
-AreAlarmLines flow defs (b ∷ stuck) text =
-    (line : Text) × (later : Text) × IsAlarmLine flow defs b.point b.state line × AreAlarmLines flow defs stuck later
-    × (text ≡ line ++ later)
+AreAlarmLines flow defs (a ∷ alarms) text =
+    (line : Text) × (later : Text) × IsAlarmLine flow defs a.0.point a.0.state line × AreAlarmLines flow defs alarms later
+    × (text ≡ (line ++ real_line a.1) ++ later)
 
 -- how many there are
 abbrev pub count_line : ℕ → Text
@@ -94,11 +106,11 @@ AreHeadLines flow defs before (h ∷ heads) text =
     (line : Text) × (later : Text) × IsHeadLine flow defs (heads_at h.0 before) h line
     × AreHeadLines flow defs (before ++ h ∷ []) heads later × (text ≡ line ++ later)
 
--- the report of a chain with these heads and these stuck branches
-abbrev pub IsChainReport : Flow → List Def → List WrittenHead → List Path → Text → Type 0
-IsChainReport flow defs heads stuck text =
-    (front : Text) × (lines : Text) × AreHeadLines flow defs [] heads front × AreAlarmLines flow defs stuck lines
-    × (text ≡ front ++ (lines ++ count_line (length stuck)))
+-- the report of a chain with these heads and these alarms
+abbrev pub IsChainReport : Flow → List Def → List WrittenHead → List Alarm → Text → Type 0
+IsChainReport flow defs heads alarms text =
+    (front : Text) × (lines : Text) × AreHeadLines flow defs [] heads front × AreAlarmLines flow defs alarms lines
+    × (text ≡ front ++ (lines ++ count_line (length alarms)))
 
 -- the report of a certificate with these heads
 abbrev pub IsCertificateReport : Flow → List Def → List WrittenHead → Text → Type 0
