@@ -46,7 +46,7 @@ AlarmsMean holds old new unit defs (request.Check c) =
 AlarmsMean holds old new unit defs (request.Run r) = Unit {0}
 AlarmsMean holds old new unit defs (request.Analyse a) =
     (flow : Flow) × (heads : List WrittenHead) × (alarms : List MarkedAlarm) × (report : List ℕ) × IsChainReport flow defs heads alarms report
-    × AddsIfTold old report new (Ok tt) × TellsFaults a.start.now unit defs (map (λ alarm. alarm.0) alarms) flow
+    × AddsIfTold old report new (Ok tt) × TellsFaults a.start.now unit defs (map (λ a. a.0) alarms) flow
     × AreReal a.start.now unit defs flow alarms
 
 -- the words ask for a check or an analysis, and where it is known what the files of its program and definitions hold, they are a
@@ -86,7 +86,7 @@ IsComplete holds words status =
 
 -- ---- decisions
 
--- more branches are ended on the way through the program's flow graph than are followed
+-- a chain of the program's flow graph ends more branches than are followed
 abbrev pub HasManyPaths : (start : List ℕ) → UnitTree → List Def → Type 0
 HasManyPaths start unit defs = (flow : Flow) × (document : List ℕ) × IsGraphOf start unit defs flow × HasTooManyPaths flow defs document
 

@@ -20,7 +20,7 @@ use Rattle.mc_exact.specs.Scripts.{malloc_lines}
 use Rattle.mc_exact.specs.Tracks.{IsExactTrack}
 use Rattle.mc_run.specs.Interpret.Faults.{FaultsAreAnswered}
 use Rattle.mc_real.specs.Marked.{MarkedAlarmsAreReal}
-use Rattle.mc_real.specs.Real.{ExactAlarmsAreReached}
+use Rattle.mc_real.specs.Real.{ExactAlarmsAreReached, IsRealGap}
 use Rattle.mc_real.specs.Scripts.{MallocScriptsAreTaken}
 
 -- something tells what is known at the end of an exact branch
@@ -37,7 +37,8 @@ all_small (n ∷ answers) small = (let le = small.0 in omega arith, all_small an
 pub marked_alarms : JudgesAreThere → ExactStatesAreWellMade → ExactAlarmsAreReached → MallocScriptsAreTaken → FaultsAreAnswered → MarkedAlarmsAreReal
 marked_alarms judges made reached taken interpreted entry unit defs g b answers is mark =
     let k = known judges made g.flow defs b mark.picks is.valid mark.track in
-    let run = reached unit entry defs g b mark.picks k.0 mark.gap is mark.track k.1 mark.unmet (λ pred n e. mark.other (pred, n, e)) in
+    let at : IsRealGap g.flow defs b mark.picks k.0 = record { exact = mark.track; known = k.1; gap = mark.gap; lacks = mark.unmet; no_shape = λ pred n e. mark.other (pred, n, e) } in
+    let run = reached unit entry defs g b mark.picks k.0 is at in
     let there = subst (λ (l : List ℕ). Reaches (Step (program_of unit defs)) run.2 (start (program_of unit defs) is.begins) (map malloc l) (fault run.1 run.0.place)) (sym (mark.answers_are k.0 k.1)) run.5 in
     let few = run.4 in
     record {
