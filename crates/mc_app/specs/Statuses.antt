@@ -15,7 +15,8 @@ use Rattle.mc_load.specs.Lowered.Graphs.{IsGraphOf, IsLong}
 use Rattle.mc_outside.specs.Outside.{AddsIfTold, WhereTold}
 use Rattle.mc_app.specs.declared.analysing.Analysed.{Analysed}
 use Rattle.mc_app.specs.declared.answer.Status.{Status}
-use Rattle.mc_app.specs.declared.answer.Status.TheVariants.{Good, Alarm, Words, Program, Definitions, Limit, Document, Device, Memory}
+use Rattle.mc_app.specs.declared.answer.Status.TheVariants.{Good, Alarm, Words, Program, Definitions}
+use Rattle.mc_app.specs.declared.answer.Status.TheVariants.{Limit, Document, Device, Memory}
 use Rattle.mc_app.specs.declared.checking.Checked.{Checked}
 use Rattle.mc_app.specs.declared.running.Ran.{Ran}
 use Rattle.mc_app.specs.declared.words.words.Analyse.{Analyse}
@@ -45,9 +46,9 @@ AlarmsMean holds old new unit defs (request.Check c) =
     (λ document. (flow : Flow) × (stuck : List Path) × IsChain flow defs document stuck × TellsFaults c.start.now unit defs stuck flow)
 AlarmsMean holds old new unit defs (request.Run r) = Unit {0}
 AlarmsMean holds old new unit defs (request.Analyse a) =
-    (flow : Flow) × (heads : List WrittenHead) × (alarms : List MarkedAlarm) × (report : List ℕ) × IsChainReport flow defs heads alarms report
-    × AddsIfTold old report new (Ok tt) × TellsFaults a.start.now unit defs (map (λ a. a.0) alarms) flow
-    × AreReal a.start.now unit defs flow alarms
+    (flow : Flow) × (heads : List WrittenHead) × (alarms : List MarkedAlarm) × (report : List ℕ)
+    × IsChainReport flow defs heads alarms report × AddsIfTold old report new (Ok tt)
+    × TellsFaults a.start.now unit defs (map (λ x. x.0) alarms) flow × AreReal a.start.now unit defs flow alarms
 
 -- the words ask for a check or an analysis, and where it is known what the files of its program and definitions hold, they are a
 -- program and its definitions, of whose faults the alarms tell
@@ -88,7 +89,8 @@ IsComplete holds words status =
 
 -- a chain of the program's flow graph ends more branches than are followed
 abbrev pub HasManyPaths : (start : List ℕ) → UnitTree → List Def → Type 0
-HasManyPaths start unit defs = (flow : Flow) × (document : List ℕ) × IsGraphOf start unit defs flow × HasTooManyPaths flow defs document
+HasManyPaths start unit defs =
+    (flow : Flow) × (document : List ℕ) × IsGraphOf start unit defs flow × HasTooManyPaths flow defs document
 
 -- the status of an analysis tells whether some run of the program has a fault, unless the program is too long or has too many
 -- paths, the device failed or memory ran out

@@ -42,7 +42,8 @@ pub fn answers_are_complete()
 
 /// Where a command that has its program and definitions ends by them, an analysis of a closed program decides it.
 pub fn closed_programs_are_decided()
-    ensures { (holds : Holds) (words : List (List ℕ)) (status : Status) → IsComplete holds words status → IsDecided holds words status }
+    ensures { (holds : Holds) (words : List (List ℕ)) (status : Status)
+        → IsComplete holds words status → IsDecided holds words status }
 {
     closed_programs_ask_for_malloc_alone();
 }

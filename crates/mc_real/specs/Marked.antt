@@ -19,16 +19,18 @@ use Rattle.mc_run.specs.declared.interpret.ending.Ending.TheVariants.{Fault}
 use Rattle.mc_run.specs.Interpret.Programs.{ProgramRuns}
 use Rattle.mc_real.specs.Real.{IsShortProgram}
 
--- the program faults at the place of the point where malloc answers so: a run of it does; and so does it with the script of
--- these answers and 20,000 units of fuel or more
-pub record FaultsOn (entry : List ℕ) (unit : UnitTree) (defs : List Def) (flow : Flow) (p : PointId) (answers : List ℕ) : Type 0 where
+-- the program faults at the place of the point where malloc answers so: it has such a run, and that is what it comes to with the
+-- script of these answers and 20,000 units of fuel or more
+pub record FaultsOn (entry : List ℕ) (unit : UnitTree) (defs : List Def) (flow : Flow) (p : PointId)
+    (answers : List ℕ) : Type 0 where
   pub point : Point
   pub is_its : slice_get flow.points p.0 ≡ Some point
   pub kind : FaultKind
   pub f : FunctionTree
   pub called : called_function (tables_of unit) entry ≡ Some f
   pub steps : ℕ
-  pub faults : Reaches (Step (program_of unit defs)) steps (start (program_of unit defs) f) (map malloc answers) (fault kind point.place)
+  pub faults : Reaches (Step (program_of unit defs)) steps (start (program_of unit defs) f) (map malloc answers)
+      (fault kind point.place)
   pub answered : (fuel : ℕ) (ending : Ending) → 20000 ≤ fuel
       → ProgramRuns unit entry defs (malloc_lines answers) fuel ending → ending ≡ Fault kind point.place
 
