@@ -15,4 +15,5 @@ pub mod Whole
 pub mod Short
 pub mod Real
 pub mod Tracks
+pub mod Marks
 pub mod Example

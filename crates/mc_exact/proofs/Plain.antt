@@ -171,6 +171,15 @@ pub is_number : (s : State) (n : NodeId) → IsPlainState s → HasKind s.kinds 
 is_number s n i (inl e) = (pos 0, subst (λ (m : NodeId). Follows (pure_of s) (In m (pos 0) (pos 0))) (sym e) (base known.zero))
 is_number s n i (inr e) = (let h = number_in s s.kinds n i.numbers e in (h.1, base (known.written h.0 h.2)))
 
+-- nodes of a kind are below the next one
+pub below : (low : ℕ) (kinds : Kinds) (high : ℕ) (n : NodeId) (k : Kind) → NodesAscend low kinds high → kind_of kinds n ≡ Some k → n.0 < high
+below low [] high n k up e = cc
+below low (x ∷ xs) high n k up e = by (λ h. below (suc x.0.0) xs high n k up.2 h) (x.0.0 == n.0) refl e
+  where
+    by : (kind_of xs n ≡ Some k → n.0 < high) → (b : Bool) → (x.0.0 == n.0) ≡ b → (if b then Some x.1 else kind_of xs n) ≡ Some k → n.0 < high
+    by later true is h = (let l = up.1 in let s = eq_same x.0.0 n.0 is in omega arith)
+    by later false is h = later h
+
 -- so what is known in the state is plain
 pub is_plain : (s : State) → IsPlainState s → AllByRecursion (λ (b : NodeId). HasKind s.kinds Ptr b) (block_starts s.graph.edges) → s.next ≤ 4611686018427387904 → IsPlain (pure_of s)
 is_plain s i starts short = record {
@@ -205,11 +214,3 @@ is_plain s i starts short = record {
       where
         not_it : (m : ℕ) → 0 < m → (m == 0) ≡ false
         not_it m lt = grind arith
-
-    below : (low : ℕ) (kinds : Kinds) (high : ℕ) (n : NodeId) (k : Kind) → NodesAscend low kinds high → kind_of kinds n ≡ Some k → n.0 < high
-    below low [] high n k up e = cc
-    below low (x ∷ xs) high n k up e = by (λ h. below (suc x.0.0) xs high n k up.2 h) (x.0.0 == n.0) refl e
-      where
-        by : (kind_of xs n ≡ Some k → n.0 < high) → (b : Bool) → (x.0.0 == n.0) ≡ b → (if b then Some x.1 else kind_of xs n) ≡ Some k → n.0 < high
-        by later true is h = (let l = up.1 in let s = eq_same x.0.0 n.0 is in omega arith)
-        by later false is h = later h

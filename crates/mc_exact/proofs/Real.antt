@@ -103,7 +103,7 @@ module _ (flow : Flow) where
   silent_grows p s ns n place (rule.S18 i) e = grown_one n i.q s s ns place e i.gives (λ m h. h)
 
   -- what was picked is a pointer
-  abbrev MayPoint : State → Option NodeId → Type 0
+  abbrev pub MayPoint : State → Option NodeId → Type 0
   MayPoint s None = Unit {0}
   MayPoint s (Some n) = HasKind s.kinds Ptr n
 
@@ -113,7 +113,7 @@ module _ (flow : Flow) where
   grow_all s t (Some n ∷ picks) g all = (g n all.0, grow_all s t picks g all.1)
 
   module _ (defs : List Def) (valid : IsValid flow defs) (laws : StateLaws) where
-    picks_point : {p : PointId} {s : State} {picks : Picks} → IsExactBranch flow p s picks → AllByRecursion (MayPoint s) picks
+    pub picks_point : {p : PointId} {s : State} {picks : Picks} → IsExactBranch flow p s picks → AllByRecursion (MayPoint s) picks
     picks_point entry = tt
     picks_point (silent {p} {s} {picks} {ns} n place b i e) = grow_all s n.state picks (silent_grows p s ns n place i e) (picks_point b)
     picks_point (failed {p} {s} {picks} {ns} n b i e) =
@@ -135,11 +135,24 @@ scripts_are flow s know tells plain (None ∷ picks) all = ap (λ (l : List Choi
 scripts_are flow s know tells plain (Some n ∷ picks) all =
     ap₂ (λ (a : ℕ) (l : List Choice). malloc a ∷ l) (ap address (pointer_is (pure_of s) know tells plain n all.0)) (scripts_are flow s know tells plain picks all.1)
 
+-- an instruction's point is in the flow graph
+pub point_inside : (flow : Flow) (p : PointId) (code : Instr) → code_at flow p ≡ Some code → p.0 < length flow.points
+point_inside flow p code e = in_list flow.points p.0 (slice_get flow.points p.0) refl e
+  where
+    in_list : (ps : List Point) (i : ℕ) (o : Option Point) → slice_get ps i ≡ o → option_map (λ point. point.code) o ≡ Some code → i < length ps
+    in_list ps i None e h = cc
+    in_list ps i (Some x) e h = inside ps i x e
+      where
+        inside : (ps : List Point) (i : ℕ) (x : Point) → slice_get ps i ≡ Some x → i < length ps
+        inside [] i x e = cc
+        inside (y ∷ ys) zero x e = omega arith
+        inside (y ∷ ys) (suc i) x e = (let l = inside ys i x e in omega arith)
+
 pub alarms_of_branches : RunLaws → StateLaws → AlarmsAreReal
 unfolding value_of_state
 alarms_of_branches laws states flow defs p s picks know gap valid size b tells unmet other =
     let g = branch_good flow defs valid states b in
-    let inside : p.0 < length flow.points = there p unmet.code unmet.at in
+    let inside : p.0 < length flow.points = point_inside flow p unmet.code unmet.at in
     let n : s.next ≤ 1 + 3 * p.0 = (branch_short flow defs valid size.no_loops laws (λ m. pos m) b).1 in
     let few = size.few in
     let short : s.next ≤ 4611686018427387904 = omega arith in
@@ -148,15 +161,3 @@ alarms_of_branches laws states flow defs p s picks know gap valid size b tells u
     let lines = (branch_short flow defs valid size.no_loops laws v b).0 in
     let script = scripts_are flow s know tells (is_plain s g.plain (has_starts flow defs valid states s g.made) short) picks (picks_point flow defs valid states b) in
     (f.0, f.1, f.2, f.3, (let le = f.4 in omega arith), subst (λ (l : List Choice). Reaches (Step flow defs) f.2 (start flow) l (fault f.1 f.0.place)) script f.5)
-  where
-    there : (p : PointId) (code : Instr) → code_at flow p ≡ Some code → p.0 < length flow.points
-    there p code e = in_list flow.points p.0 (slice_get flow.points p.0) refl e
-      where
-        in_list : (ps : List Point) (i : ℕ) (o : Option Point) → slice_get ps i ≡ o → option_map (λ point. point.code) o ≡ Some code → i < length ps
-        in_list ps i None e h = cc
-        in_list ps i (Some x) e h = inside ps i x e
-          where
-            inside : (ps : List Point) (i : ℕ) (x : Point) → slice_get ps i ≡ Some x → i < length ps
-            inside [] i x e = cc
-            inside (y ∷ ys) zero x e = omega arith
-            inside (y ∷ ys) (suc i) x e = (let l = inside ys i x e in omega arith)

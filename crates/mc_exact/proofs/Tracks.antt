@@ -42,6 +42,7 @@ use Rattle.mc_exact.proofs.Exactly.{IsBlock}
 use Rattle.mc_exact.proofs.Stored.{one_item}
 use Rattle.mc_exact.proofs.Instructions.{first_is, blocks_left, blocks_replaced}
 use Rattle.mc_exact.specs.Real.{AlarmsAreReal}
+use Rattle.mc_exact.specs.Marks.{keeps_exact}
 use Rattle.mc_exact.specs.Tracks.{picked, tracked, IsExactTrack, IsClosed, AsksMallocAlone, LinesKeepExact, StuckLacks, StuckIsReal}
 
 -- ---- all edges of an exact branch are blocks
@@ -109,14 +110,14 @@ module _ (flow : Flow) where
   -- ---- lines
 
   -- the instruction at a point is such as the flow graph has
-  asks_at : AsksMallocAlone flow → (p : PointId) (code : Instr) → code_at flow p ≡ Some code → IsClosed code
+  pub asks_at : AsksMallocAlone flow → (p : PointId) (code : Instr) → code_at flow p ≡ Some code → IsClosed code
   asks_at asks p code e = by (slice_get flow.points p.0) refl e
     where
       by : (o : Option Point) → slice_get flow.points p.0 ≡ o → option_map (λ (point : Point). point.code) o ≡ Some code → IsClosed code
       by None there h = cc
       by (Some point) there h = subst IsClosed (one_item point.code code h) (all_at (λ (x : Point). IsClosed x.code) flow.points p.0 point there asks)
 
-  no_edge : (es : Edges) (id : EdgeId) (x : Edge) → AllByRecursion (λ e. IsBlock e.1) es → edge_with es id ≡ Some x → IsBlock x
+  pub no_edge : (es : Edges) (id : EdgeId) (x : Edge) → AllByRecursion (λ e. IsBlock e.1) es → edge_with es id ≡ Some x → IsBlock x
   no_edge [] id x all e = cc
   no_edge (y ∷ es) id x all e = by (λ h. no_edge es id x all.1 h) (y.0.0 == id.0) e
     where
@@ -157,32 +158,53 @@ module _ (flow : Flow) where
   none_left : (next' : List Path) (picks : Picks) → next' ≡ [] → AllByRecursion (IsExactTrack flow) (map (λ n. (n, picks)) next')
   none_left next' picks e = subst (λ (l : List Path). AllByRecursion (IsExactTrack flow) (map (λ n. (n, picks)) l)) (sym e) tt
 
-  -- what comes of an exact branch by an instruction is exact, where malloc alone is asked for
-  step_keeps : (g : Setting) (r : InstrRule) (b : Path) (next' : List Path) (picks : Picks) → AsksMallocAlone flow → IsExactBranch flow b.point b.state picks
+  -- what comes of an exact branch by a rule by which it stays so is exact
+  pub exact_step : (g : Setting) (r : InstrRule) (b : Path) (next' : List Path) (picks : Picks) → keeps_exact (line.Step r) ≡ true → IsExactBranch flow b.point b.state picks
       → ByStep r flow g b next' → AllByRecursion (IsExactTrack flow) (tracked (line.Step r) b.state picks next')
-  step_keeps g step.S1 b next' picks asks branch i = by_silent g b next' picks step.S1 (λ ns r. rule.S1 r) branch i
-  step_keeps g step.S2 b next' picks asks branch i = by_silent g b next' picks step.S2 (λ ns r. rule.S2 r) branch i
-  step_keeps g step.S3 b next' picks asks branch i = by_silent g b next' picks step.S3 (λ ns r. rule.S3 r) branch i
-  step_keeps g step.S4 b next' picks asks branch i = absurd (asks_at asks b.point (instr.Input i.1.1.x i.1.1.q) i.1.1.at)
-  step_keeps g step.S5 b next' picks asks branch i = by_silent g b next' picks step.S5 (λ ns r. rule.S5 r) branch i
-  step_keeps g step.S6 b next' picks asks branch i = by_silent g b next' picks step.S6 (λ ns r. rule.S6 r) branch i
-  step_keeps g step.S7 b next' picks asks branch i = by_silent g b next' picks step.S7 (λ ns r. rule.S7 r) branch i
-  step_keeps g step.S8 b next' picks asks branch i = by_silent g b next' picks step.S8 (λ ns r. rule.S8 r) branch i
-  step_keeps g step.S9 b next' picks asks branch i = by_silent g b next' picks step.S9 (λ ns r. rule.S9 r) branch i
-  step_keeps g step.S10 b next' picks asks branch i = by_malloc g b next' picks branch i
-  step_keeps g step.S11 b next' picks asks branch i = by_silent g b next' picks step.S11 (λ ns r. rule.S11 r) branch i
-  step_keeps g step.S12 b next' picks asks branch i = by_silent g b next' picks step.S12 (λ ns r. rule.S12 r) branch i
-  step_keeps g step.S13 b next' picks asks branch i = by_silent g b next' picks step.S13 (λ ns r. rule.S13 r) branch i
-  step_keeps g step.S14 b next' picks asks branch i = by_silent g b next' picks step.S14 (λ ns r. rule.S14 r) branch i
-  step_keeps g step.S15 b next' picks asks branch i = absurd (asks_at asks b.point (instr.AssumeShape i.1.1.pred i.1.1.x i.1.1.os i.1.1.q) i.1.1.at)
-  step_keeps g step.S16 b next' picks asks branch i = absurd (asks_at asks b.point (instr.AssertShape i.1.1.pred i.1.1.o i.1.1.os i.1.1.q) i.1.1.at)
-  step_keeps g step.S17 b next' picks asks branch i = none_left next' picks (i.1.2 ∙ ap (map path_of) i.1.1.gives)
-  step_keeps g step.S18 b next' picks asks branch i = by_silent g b next' picks step.S18 (λ ns r. rule.S18 r) branch i
+  exact_step g step.S1 b next' picks e branch i = by_silent g b next' picks step.S1 (λ ns r. rule.S1 r) branch i
+  exact_step g step.S2 b next' picks e branch i = by_silent g b next' picks step.S2 (λ ns r. rule.S2 r) branch i
+  exact_step g step.S3 b next' picks e branch i = by_silent g b next' picks step.S3 (λ ns r. rule.S3 r) branch i
+  exact_step g step.S4 b next' picks e branch i = absurd (cc e)
+  exact_step g step.S5 b next' picks e branch i = by_silent g b next' picks step.S5 (λ ns r. rule.S5 r) branch i
+  exact_step g step.S6 b next' picks e branch i = by_silent g b next' picks step.S6 (λ ns r. rule.S6 r) branch i
+  exact_step g step.S7 b next' picks e branch i = by_silent g b next' picks step.S7 (λ ns r. rule.S7 r) branch i
+  exact_step g step.S8 b next' picks e branch i = by_silent g b next' picks step.S8 (λ ns r. rule.S8 r) branch i
+  exact_step g step.S9 b next' picks e branch i = by_silent g b next' picks step.S9 (λ ns r. rule.S9 r) branch i
+  exact_step g step.S10 b next' picks e branch i = by_malloc g b next' picks branch i
+  exact_step g step.S11 b next' picks e branch i = by_silent g b next' picks step.S11 (λ ns r. rule.S11 r) branch i
+  exact_step g step.S12 b next' picks e branch i = by_silent g b next' picks step.S12 (λ ns r. rule.S12 r) branch i
+  exact_step g step.S13 b next' picks e branch i = by_silent g b next' picks step.S13 (λ ns r. rule.S13 r) branch i
+  exact_step g step.S14 b next' picks e branch i = by_silent g b next' picks step.S14 (λ ns r. rule.S14 r) branch i
+  exact_step g step.S15 b next' picks e branch i = absurd (cc e)
+  exact_step g step.S16 b next' picks e branch i = absurd (cc e)
+  exact_step g step.S17 b next' picks e branch i = none_left next' picks (i.1.2 ∙ ap (map path_of) i.1.1.gives)
+  exact_step g step.S18 b next' picks e branch i = by_silent g b next' picks step.S18 (λ ns r. rule.S18 r) branch i
+
+  -- where malloc alone is asked for, so is what comes of it by each rule
+  pub step_keeps : (g : Setting) (r : InstrRule) (b : Path) (next' : List Path) (picks : Picks) → AsksMallocAlone flow → ByStep r flow g b next' → keeps_exact (line.Step r) ≡ true
+  step_keeps g step.S1 b next' picks asks i = refl
+  step_keeps g step.S2 b next' picks asks i = refl
+  step_keeps g step.S3 b next' picks asks i = refl
+  step_keeps g step.S4 b next' picks asks i = absurd (asks_at asks b.point (instr.Input i.1.1.x i.1.1.q) i.1.1.at)
+  step_keeps g step.S5 b next' picks asks i = refl
+  step_keeps g step.S6 b next' picks asks i = refl
+  step_keeps g step.S7 b next' picks asks i = refl
+  step_keeps g step.S8 b next' picks asks i = refl
+  step_keeps g step.S9 b next' picks asks i = refl
+  step_keeps g step.S10 b next' picks asks i = refl
+  step_keeps g step.S11 b next' picks asks i = refl
+  step_keeps g step.S12 b next' picks asks i = refl
+  step_keeps g step.S13 b next' picks asks i = refl
+  step_keeps g step.S14 b next' picks asks i = refl
+  step_keeps g step.S15 b next' picks asks i = absurd (asks_at asks b.point (instr.AssumeShape i.1.1.pred i.1.1.x i.1.1.os i.1.1.q) i.1.1.at)
+  step_keeps g step.S16 b next' picks asks i = absurd (asks_at asks b.point (instr.AssertShape i.1.1.pred i.1.1.o i.1.1.os i.1.1.q) i.1.1.at)
+  step_keeps g step.S17 b next' picks asks i = refl
+  step_keeps g step.S18 b next' picks asks i = refl
 
   -- and so is what comes of it by another line that advances it
   line_keeps : (defs : List Def) (g : Setting) (l : Line) (b : Path) (next' : List Path) (picks : Picks) → AsksMallocAlone flow → advances l ≡ true → IsExactBranch flow b.point b.state picks
       → IsInstance flow defs g l b next' → AllByRecursion (IsExactTrack flow) (tracked l b.state picks next')
-  line_keeps defs g (line.Step r) b next' picks asks adv branch i = step_keeps g r b next' picks asks branch i
+  line_keeps defs g (line.Step r) b next' picks asks adv branch i = exact_step g r b next' picks (step_keeps g r b next' picks asks i) branch i
   line_keeps defs g (line.L1 id) b next' picks asks adv branch i = absurd (no_edge b.state.graph.edges id _ (branch_blocks branch) i.1.1.there)
   line_keeps defs g (line.L2 id) b next' picks asks adv branch i = absurd (no_edge b.state.graph.edges id _ (branch_blocks branch) i.1.1.there)
   line_keeps defs g (line.L15 id) b next' picks asks adv branch i = absurd (no_edge b.state.graph.edges id _ (branch_blocks branch) i.1.1.there)

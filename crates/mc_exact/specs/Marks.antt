@@ -10,6 +10,7 @@ use Rattle.mc_state.specs.declared.line.Form.TheVariants.{Chain}
 use Rattle.mc_state.specs.declared.line.InstrRule.TheVariants.{S4, S15, S16}
 use Rattle.mc_state.specs.declared.line.Version.TheVariants.{One}
 use Rattle.mc_state.specs.Known.{Test, Tells}
+use Rattle.mc_state.specs.State.{State}
 use Rattle.mc_rules_steps.specs.declared.gap.Gap.{Gap}
 use Rattle.mc_rules_steps.specs.declared.gap.Gap.TheVariants.{NoShape}
 use Rattle.mc_rules_steps.specs.Unmet.{IsUnmet}
@@ -60,13 +61,13 @@ unmarked b = (b, None)
 abbrev pub IsShape : Gap → Type 0
 IsShape gap = (pred : PredId) × (n : NodeId) × (gap ≡ NoShape pred n)
 
--- the mark of a stuck branch: the answers of malloc by what is known at its state, where it is exact and lacks no shape
-abbrev pub IsMark : Flow → List Def → Branch → Option (List ℕ) → Type 0
-IsMark flow defs (b, None) mark = mark ≡ None
-IsMark flow defs (b, Some picks) None = (gap : Gap) × IsUnmet flow defs b.point b.state gap × IsShape gap
-IsMark flow defs (b, Some picks) (Some answers) =
-    (gap : Gap) × IsUnmet flow defs b.point b.state gap × (IsShape gap → ⊥)
-    × ((know : Test) → Tells know b.state → answers ≡ map (answered know) picks)
+-- the mark of a branch that is stuck at a state with a gap: the answers of malloc by what is known there, where it is exact and the
+-- gap is no shape
+abbrev pub IsMark : State → Option Picks → Gap → Option (List ℕ) → Type 0
+IsMark s None gap mark = mark ≡ None
+IsMark s (Some picks) gap None = IsShape gap
+IsMark s (Some picks) gap (Some answers) =
+    (IsShape gap → ⊥) × ((know : Test) → Tells know s → answers ≡ map (answered know) picks)
 
 -- ---- chains
 
@@ -82,8 +83,10 @@ pub data Tracked (flow : Flow) (defs : List Def) : List Line → List Branch →
       → Tracked flow defs lines (b ∷ others) alarms
       → (IsPlain b.0 → advances l ≡ true) → IsInstance flow defs alone l b.0 next
       → Tracked flow defs (lines ++ l ∷ []) (followed l b next ++ others) alarms
-  stuck : {lines : List Line} {others : List Branch} {alarms : List Alarm} (b : Branch) (next : List Path) (mark : Option (List ℕ))
-      → Tracked flow defs lines (b ∷ others) alarms → IsInstance flow defs alone line.C1 b.0 next → IsMark flow defs b mark
+  stuck : {lines : List Line} {others : List Branch} {alarms : List Alarm} (b : Branch) (next : List Path) (gap : Gap)
+      (mark : Option (List ℕ))
+      → Tracked flow defs lines (b ∷ others) alarms → IsInstance flow defs alone line.C1 b.0 next
+      → IsUnmet flow defs b.0.point b.0.state gap → IsMark b.0.state b.1 gap mark
       → Tracked flow defs (lines ++ line.C1 ∷ []) others (alarms ++ (b.0, mark) ∷ [])
 
 -- the lines are a chain without cuts and heads, of whose pass come these alarms

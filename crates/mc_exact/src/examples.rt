@@ -11,11 +11,13 @@ ghost use Rattle.mc_pure.specs.Examples.{node};
 ghost use Rattle.mc_rules_steps.specs.declared.gap.Gap.TheVariants.{NoBlock};
 ghost use Rattle.mc_rules_steps.specs.Unmet.{IsUnmet};
 ghost use Rattle.mc_kernel.specs.Examples.{at};
+ghost use Rattle.mc_exact.specs.Marks.{AreMarked};
 ghost use Rattle.mc_exact.specs.Real.{IsShort};
 ghost use Rattle.mc_exact.specs.Tracks.{AsksMallocAlone, IsExactTrack};
-ghost use Rattle.mc_exact.specs.Examples.{freed_flow, null_state, freed_state, null_track, freed_track};
+ghost use Rattle.mc_exact.specs.Examples.{freed_flow, null_state, freed_state, null_track, freed_track, freed_chain, freed_alarms};
 
-/// A program that reads what it freed: it lacks a block on both branches, and each answer of malloc leads to a fault.
+/// A program that reads what it freed: it lacks a block on both branches, and each answer of malloc leads to a fault. In its
+/// chain both are marked.
 pub fn freed_is_read()
     ensures valid { IsValid freed_flow defs }
     ensures short { IsShort freed_flow }
@@ -26,6 +28,7 @@ pub fn freed_is_read()
     ensures freed_track { IsExactTrack freed_flow freed_track }
     ensures freed_unmet { IsUnmet freed_flow defs (at 2) freed_state (NoBlock (node 1)) }
     ensures freed_faults { Reaches (Step freed_flow defs) 3 (start freed_flow) (malloc 1 ∷ []) (fault Freed (record { line = 1; column = 1 })) }
+    ensures marked { AreMarked freed_flow defs freed_chain freed_alarms }
 {
     mc_flow::defs::examples_fit();
     mc_flow::heap::heaps_change_one_address();

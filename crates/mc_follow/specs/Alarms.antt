@@ -1,4 +1,5 @@
 pub mod Laws
 pub mod Outcomes
+pub mod Tracks
 pub mod Walks
 pub mod Sides

@@ -2,11 +2,14 @@
 //! lacks something is stuck, and the report of it.
 
 mod applying;
+mod coming;
 mod following;
 mod laws;
 mod lines;
+mod mark;
 mod outcome;
 mod sides;
+mod tracks;
 mod walk;
 mod whole;
 

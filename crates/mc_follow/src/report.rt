@@ -7,4 +7,4 @@ mod lines;
 
 pub use chains::{ChainReport, chain_report};
 pub use heads::certificate_report;
-pub use lines::{push_alarm, push_count, push_head};
+pub use lines::{push_alarm, push_count, push_head, push_real};

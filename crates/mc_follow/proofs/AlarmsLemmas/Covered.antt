@@ -19,6 +19,7 @@ use Rattle.mc_document.specs.Proof.Lines.{setting_at}
 use Rattle.mc_document.specs.Proof.Positions.{Position}
 use Rattle.mc_state.specs.Fits.{IsWellMade}
 use Rattle.mc_state.specs.State.{State}
+use Rattle.mc_exact.specs.Exact.{Picks}
 use Rattle.mc_follow.specs.Alarms.Laws.{AssertionsAreCovered, DocumentsAreFollowed}
 use Rattle.mc_follow.specs.Alarms.Walks.{AreCovered, IsAtCovered, IsAtFirst, IsAtSide, IsFirstGone, IsFollowed, IsMet, IsTurned}
 use Rattle.mc_follow.proofs.AlarmsLemmas.Asserted.{asserted_covered, both_covered, plain_covered}
@@ -62,8 +63,8 @@ first_asserts_not know es e = by (is_false know) e
     by true e = cc e
     by false e = from (find (starts_at know null) es) e
 
-module _ (laws : DocumentsAreFollowed) (flow : Flow) (defs : List Def) (lines : List Line) (p : Position) (text : List ℕ) (ended : ℕ)
-    (f : IsFollowed flow defs lines p text ended) (covers : AssertionsAreCovered) where
+module _ (laws : DocumentsAreFollowed) (flow : Flow) (defs : List Def) (lines : List Line) (p : Position) (text : List ℕ) (ended : ℕ) (tracks : List (Option Picks))
+    (f : IsFollowed flow defs lines p text ended tracks) (covers : AssertionsAreCovered) where
   -- a test that tells what is entailed in each well-made state
   record Telling : Type 0 where
     pub know : State → Test
@@ -82,7 +83,7 @@ module _ (laws : DocumentsAreFollowed) (flow : Flow) (defs : List Def) (lines : 
     next_covered : AreCovered defs t.next
     next_covered = elim (plain_or flow defs (setting_at p) t.first t.next plain l t.instance) [
       | inl all ↦ plain_covered defs t.next all
-      | inr a ↦ asserted_covered covers flow defs f.valid t.first (told laws flow defs lines p text ended f t.first t.others t.branches_are).made
+      | inr a ↦ asserted_covered covers flow defs f.valid t.first (told laws flow defs lines p text ended tracks f t.first t.others t.branches_are).made
           telling.know telling.tells (λ gap. met a.0 t.first t.others gap t.branches_are) (setting_at p) t.next a.1
     ]
 
@@ -99,7 +100,7 @@ module _ (laws : DocumentsAreFollowed) (flow : Flow) (defs : List Def) (lines : 
   -- the line that is asked for first asserts nothing
   pub first_is_no_assertion : (l : Line) → IsAtFirst l p → l ≡ Step S16 → IsMet flow defs p
   first_is_no_assertion l at e =
-      let t = told laws flow defs lines p text ended f at.first at.others at.branches_are in
+      let t = told laws flow defs lines p text ended tracks f at.first at.others at.branches_are in
       absurd (first_asserts_not t.know at.first.state.graph.edges (at.asked t.know t.tells ∙ some_same l (Step S16) e))
     where
       some_same : (l m : Line) → l ≡ m → Some l ≡ Some m

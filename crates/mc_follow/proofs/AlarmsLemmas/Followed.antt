@@ -1,8 +1,8 @@
 -- Chains that are followed line by line.
-use Rattle.std.proofs.Common.{◌≡◌, ◌++◌, ◌∷◌, ◌∙◌, ◌+◌, ◌<◌, ◌≤◌, ◌⊎◌, inl, inr, ℕ, List, [], Bool, true, false, Option, Some, None, Contains, option_map, refl, sym, ap, subst, length, append_assoc, arith}
+use Rattle.std.proofs.Common.{◌≡◌, ◌++◌, ◌∷◌, ◌∙◌, ◌+◌, ◌<◌, ◌≤◌, ◌⊎◌, inl, inr, ℕ, List, [], Bool, true, false, Option, Some, None, Contains, map, option_map, refl, sym, ap, ap₂, subst, length, append_assoc, arith}
 use Rattle.std.specs.Prelude.{Err, Ok, is_some}
 use Rattle.std.specs.List.{AllByRecursion, list_all}
-use Rattle.std.proofs.lemmas.List.{append-nil}
+use Rattle.std.proofs.lemmas.List.{append-nil, length-map, map-append}
 use Rattle.mc_lines.specs.declared.cert.line.Line.{Line}
 use Rattle.mc_lines.specs.declared.cert.line.Line.TheVariants as line
 use Rattle.mc_flow.specs.declared.defs.rules.Def.{Def}
@@ -12,7 +12,15 @@ use Rattle.mc_state.specs.Premises.{Judged, need, have}
 use Rattle.mc_state.specs.declared.line.Form.TheVariants.{Chain}
 use Rattle.mc_state.specs.declared.line.Version.TheVariants.{One}
 use Rattle.mc_state.specs.declared.raw_state.RawState.{RawState}
-use Rattle.mc_kernel.specs.Branches.{IsPlain, MayStep, Path, Setting, roots}
+use Rattle.mc_kernel.specs.Branches.{Head, IsPlain, MayStep, Path, Setting, entry_path, roots}
+use Rattle.mc_kernel.specs.Certificates.{states_of}
+use Rattle.mc_state.specs.declared.line.Form.{Form}
+use Rattle.mc_rules_steps.specs.declared.gap.Gap.{Gap}
+use Rattle.mc_rules_steps.specs.Unmet.{IsUnmet}
+use Rattle.mc_exact.specs.Marks.{Alarm, IsMark, alone, entry}
+use Rattle.mc_follow.specs.Alarms.Tracks.{tracks_after}
+use Rattle.mc_follow.specs.declared.alarms.coming.Coming.{Coming}
+use Rattle.mc_follow.proofs.AlarmsLemmas.Marked.{ended_tracks, marked_more, marked_stuck}
 use Rattle.mc_kernel.specs.Instances.{IsInstance, IsStuck}
 use Rattle.mc_kernel.specs.Judges.{Knowledge, is_cut}
 use Rattle.mc_kernel.specs.Readings.{Reading, Stage, begun, behind, cutting, finished, first_branch, heading, has_no_branch, marked, ready, reading_line, ruled, ruling, setting_of}
@@ -24,12 +32,13 @@ use Rattle.mc_document.specs.Proof.Lines.{setting_at}
 use Rattle.mc_document.specs.Proof.Positions.{IsApplied, IsRefusedHere, Position, Stands, position_of}
 use Rattle.mc_kernel.specs.Reading.Documents.{IsAskedHere, IsJudge, IsKept, IsMade, IsReadAt, IsShortChain, is_rule, reading_document}
 use Rattle.mc_follow.specs.Report.Heads.{heads_of}
-use Rattle.mc_follow.specs.Report.Report.{AreAlarmLines, IsAlarmLine, count_line}
+use Rattle.mc_follow.specs.Report.Report.{AreAlarmLines, IsAlarmLine, count_line, real_line}
+use Rattle.mc_exact.specs.Exact.{Picks}
 use Rattle.mc_follow.specs.Alarms.Laws.{BranchesAreFollowed, DocumentsAreFollowed}
 use Rattle.mc_follow.specs.declared.alarms.outcome.Document.{Document}
 use Rattle.mc_follow.specs.declared.alarms.walk.Walk.{Walk}
 use Rattle.mc_follow.specs.Alarms.Outcomes.{IsCrowded, IsOnward, IsWhole}
-use Rattle.mc_follow.specs.Alarms.Walks.{AreOpen, IsAtCode, IsAtFirst, IsCodeLine, IsFirstGone, IsFollowed, IsMet, IsNowhere, IsSure, IsTurned, IsWalk, MayApply, ended_by, ending, goes_on}
+use Rattle.mc_follow.specs.Alarms.Walks.{AreOpen, IsAtCode, IsAtFirst, IsCodeLine, IsComing, IsFirstGone, IsFollowed, IsMet, IsNowhere, IsSure, IsTurned, IsWalk, MayApply, ended_by, ending, goes_on}
 use Rattle.mc_state.specs.declared.goal.Goal.{Goal}
 use Rattle.mc_document.specs.Places.{AreInPlace, HasPlaces, cut_of, may_stand}
 use Rattle.mc_document.proofs.PlacesLemmas.{placed_more}
@@ -44,16 +53,24 @@ need_ok : {A : Type 0} (k : ℕ) (b : Bool) (x y : A) → ◌≡◌ {A = Judged 
 need_ok k true x y e = cc e
 need_ok k false x y e = absurd (cc e)
 
+-- what lines are judged by where there are neither cuts nor heads
+judged_alone : (p : Position) → p.form ≡ Chain → p.cuts ≡ [] → p.heads ≡ [] → setting_at p ≡ alone
+judged_alone p form cuts heads =
+    ap (λ (f : Form). record { form = f; cuts = p.cuts; heads = p.heads }) form
+    ∙ ap₂ (λ (c : List PointId) (h : List Head). record { form = Chain; cuts = c; heads = h }) cuts heads
+
 ended_more : (lines : List Line) (l : Line) → ended_by (lines ++ l ∷ []) ≡ ended_by lines + ending l
 ended_more [] l = omega arith
 ended_more (m ∷ lines) l = let e : ended_by (lines ++ l ∷ []) ≡ ended_by lines + ending l = ended_more lines l in omega (arith, e)
 
--- a line more after those of stuck branches
-pub alarm_more : (flow : Flow) (defs : List Def) (stuck : List Path) (b : Path) (text line : List ℕ) → AreAlarmLines flow defs stuck text
-    → IsAlarmLine flow defs b.point b.state line → AreAlarmLines flow defs (stuck ++ b ∷ []) (text ++ line)
-alarm_more flow defs [] b text line none is = (line, [], is, refl, ap (λ (t : List ℕ). t ++ line) none ∙ sym (append-nil line))
-alarm_more flow defs (c ∷ stuck) b text line (own, later, is_own, rest, spelled) is =
-    (own, later ++ line, is_own, alarm_more flow defs stuck b later line rest is, ap (λ (t : List ℕ). t ++ line) spelled ∙ append_assoc own later line)
+-- lines more after those of alarms
+pub alarm_more : (flow : Flow) (defs : List Def) (alarms : List Alarm) (a : Alarm) (text line : List ℕ) → AreAlarmLines flow defs alarms text
+    → IsAlarmLine flow defs a.0.point a.0.state line → AreAlarmLines flow defs (alarms ++ a ∷ []) (text ++ (line ++ real_line a.1))
+alarm_more flow defs [] a text line none is =
+    (line, [], is, refl, ap (λ (t : List ℕ). t ++ (line ++ real_line a.1)) none ∙ sym (append-nil (line ++ real_line a.1)))
+alarm_more flow defs (c ∷ alarms) a text line (own, later, is_own, rest, spelled) is =
+    (own, later ++ (line ++ real_line a.1), is_own, alarm_more flow defs alarms a later line rest is,
+    ap (λ (t : List ℕ). t ++ (line ++ real_line a.1)) spelled ∙ append_assoc (own ++ real_line c.1) later (line ++ real_line a.1))
 
 module _ (laws : DocumentsAreFollowed) (flow : Flow) (defs : List Def) (valid : IsValid flow defs) where
   module _ (k : Knowledge) (well : RawState → Bool) (judge : IsJudge k well flow defs) where
@@ -115,6 +132,7 @@ module _ (laws : DocumentsAreFollowed) (flow : Flow) (defs : List Def) (valid : 
       pub branches_are : next.branches ≡ paths ++ others
       pub same_form : next.form ≡ last.form
       pub same_cuts : next.cuts ≡ last.cuts
+      pub same_heads : next.heads ≡ last.heads
 
     pub ruled_by : (l : Line) (last : Reading) (old : Position) (next : Reading) → is_rule l ≡ true → Stands k well last old
         → old.flow ≡ flow → old.defs ≡ defs → old.stage ≡ ruling → reading_line k well flow defs l last ≡ Ok next → IsRuled l last old next
@@ -134,6 +152,7 @@ module _ (laws : DocumentsAreFollowed) (flow : Flow) (defs : List Def) (valid : 
           branches_are = ap (λ (r : Reading). r.branches) i.gives;
           same_form = ap (λ (r : Reading). r.form) i.gives ∙ ap (λ (r : Reading). r.form) (sym same);
           same_cuts = ap (λ (r : Reading). r.cuts) i.gives ∙ ap (λ (r : Reading). r.cuts) (sym same);
+          same_heads = ap (λ (r : Reading). r.heads) i.gives ∙ ap (λ (r : Reading). r.heads) (sym same);
         }
 
     -- what comes of it where the document stands then
@@ -141,6 +160,7 @@ module _ (laws : DocumentsAreFollowed) (flow : Flow) (defs : List Def) (valid : 
       pub branches_are : new.branches ≡ paths ++ others
       pub form_is : new.form ≡ old.form
       pub cuts_are : new.cuts ≡ old.cuts
+      pub heads_are : new.heads ≡ old.heads
 
     moved_by : (l : Line) (last next : Reading) (old new : Position) → Stands k well last old → Stands k well next new → (i : IsRuled l last old next)
         → IsMoved old new i.others i.paths
@@ -148,6 +168,7 @@ module _ (laws : DocumentsAreFollowed) (flow : Flow) (defs : List Def) (valid : 
       branches_are = sym (ap (λ (q : Position). q.branches) behind_it.here) ∙ i.branches_are;
       form_is = sym (ap (λ (q : Position). q.form) behind_it.here) ∙ i.same_form ∙ ap (λ (q : Position). q.form) before.here;
       cuts_are = sym (ap (λ (q : Position). q.cuts) behind_it.here) ∙ i.same_cuts ∙ ap (λ (q : Position). q.cuts) before.here;
+      heads_are = sym (ap (λ (q : Position). q.heads) behind_it.here) ∙ ap states_of i.same_heads ∙ ap (λ (q : Position). q.heads) before.here;
     }
 
     still_begun : (next : Reading) (new : Position) → Stands k well next new → next.stage ≡ ruling → new.stage ≡ ruling
@@ -178,33 +199,35 @@ module _ (laws : DocumentsAreFollowed) (flow : Flow) (defs : List Def) (valid : 
   both_open (b ∷ bs) cs one two = (one.0, both_open bs cs one.1 two)
 
   -- a line that may stand at the first branch stands where it may
-  placed_more_by : (lines : List Line) (l : Line) (old : Position) (text : List ℕ) (ended : ℕ) → may_stand l old.branches ≡ true
-      → (f : IsFollowed flow defs lines old text ended)
-      → (k : Knowledge) (well : RawState → Bool) → IsJudge k well flow defs → AreInPlace k well flow defs (f.behind ++ l ∷ []) (begun Chain)
-  placed_more_by lines l old text ended may f k well judge =
+  placed_more_by : (lines : List Line) (l : Line) (old : Position) (text : List ℕ) (ended : ℕ) (tracks : List (Option Picks)) → may_stand l old.branches ≡ true
+      → (f : IsFollowed flow defs lines old text ended tracks)
+      → (k : Knowledge) (well : RawState → Bool) → IsJudge k well flow defs → AreInPlace k well flow defs ((line.Pass ∷ f.rules) ++ l ∷ []) (begun Chain)
+  placed_more_by lines l old text ended tracks may f k well judge =
       let r = f.reads k well judge in
-      placed_more k well flow defs 2 f.behind l (begun Chain) r.last r.read (f.in_place k well judge)
+      placed_more k well flow defs 2 (line.Pass ∷ f.rules) l (begun Chain) r.last r.read (f.in_place k well judge)
       (ap (λ (q : Position). may_stand l q.branches) r.stands.here ∙ may)
 
   -- so it is in its place in the document
-  places_more : (lines : List Line) (l : Line) (old : Position) (text : List ℕ) (ended : ℕ) → cut_of l ≡ [] → may_stand l old.branches ≡ true
-      → IsFollowed flow defs lines old text ended → HasPlaces flow defs Chain (lines ++ l ∷ [])
-  places_more lines l old text ended uncut may f = record {
+  places_more : (lines : List Line) (l : Line) (old : Position) (text : List ℕ) (ended : ℕ) (tracks : List (Option Picks)) → cut_of l ≡ [] → may_stand l old.branches ≡ true
+      → IsFollowed flow defs lines old text ended tracks → HasPlaces flow defs Chain (lines ++ l ∷ [])
+  places_more lines l old text ended tracks uncut may f = record {
     cuts = uncut_more lines l uncut ∙ f.uncut ∙ sym f.no_loops;
     sides = record {
-      behind = f.behind ++ l ∷ [];
-      spelled = spelled_more lines f.behind l f.spelled;
-      in_place = placed_more_by lines l old text ended may f;
+      behind = (line.Pass ∷ f.rules) ++ l ∷ [];
+      spelled = spelled_more lines (line.Pass ∷ f.rules) l f.spelled;
+      in_place = placed_more_by lines l old text ended tracks may f;
     };
   }
 
-  pub goes_further : (more_laws : BranchesAreFollowed) (lines : List Line) (l : Line) (old new : Position) (text : List ℕ) (ended n : ℕ) → goes_on l ≡ true → MayApply l old
-      → IsFollowed flow defs lines old text ended → IsApplied l old new → n ≡ ended + ending l → n ≤ 65536
-      → IsFollowed flow defs (lines ++ l ∷ []) new text n
-  goes_further more_laws lines l old new text ended n goes fits f applied count few =
+  pub goes_further : (more_laws : BranchesAreFollowed) (lines : List Line) (l : Line) (old new : Position) (text : List ℕ) (ended : ℕ) (tracks : List (Option Picks)) (n : ℕ) → goes_on l ≡ true → MayApply l old
+      → IsFollowed flow defs lines old text ended tracks → IsApplied l old new → n ≡ ended + ending l → n ≤ 65536
+      → (coming : Coming) → IsComing defs l old coming → (after : List (Option Picks))
+      → ((track : Option Picks) (rest : List (Option Picks)) → tracks ≡ track ∷ rest → after ≡ tracks_after l coming.node track coming.count ++ rest)
+      → IsFollowed flow defs (lines ++ l ∷ []) new text n after
+  goes_further more_laws lines l old new text ended tracks n goes fits f applied count few coming is_coming after turned =
       let one = laws.judges flow defs valid in
       let r = f.reads one.0 one.1 one.2 in
-      let m = more one.0 one.1 one.2 f.behind l r.last old new r.read r.stands f.of_flow f.of_defs applied in
+      let m = more one.0 one.1 one.2 (line.Pass ∷ f.rules) l r.last old new r.read r.stands f.of_flow f.of_defs applied in
       let i = ruled_by one.0 one.1 one.2 l r.last old m.next (goes_by_rule l goes) r.stands f.of_flow f.of_defs f.ruled m.line_read in
       let v = moved_by one.0 one.1 one.2 l r.last m.next old new r.stands m.stands i in
       let before : AreOpen flow (i.first ∷ i.others) = subst (AreOpen flow) i.open_are f.open_are in
@@ -212,16 +235,22 @@ module _ (laws : DocumentsAreFollowed) (flow : Flow) (defs : List Def) (valid : 
       record {
         form_is = v.form_is ∙ f.form_is;
         no_cuts = v.cuts_are ∙ f.no_cuts;
+        no_heads = v.heads_are ∙ f.no_heads;
         open_are = subst (AreOpen flow) (sym v.branches_are) (both_open i.paths i.others after before.1);
         valid = valid;
-        behind = f.behind ++ l ∷ [];
-        spelled = spelled_more lines f.behind l f.spelled;
+        rules = f.rules ++ l ∷ [];
+        spelled = spelled_more lines (line.Pass ∷ f.rules) l f.spelled;
         of_flow = m.of_flow;
         of_defs = m.of_defs;
         ruled = still_begun one.0 one.1 one.2 m.next new m.stands i.begun_still;
+        alarms = f.alarms;
+        told = f.told;
+        marked = marked_more flow defs f.rules old.branches tracks f.alarms l i.first i.others i.paths new.branches coming.node coming.count after f.marked i.open_are
+            (fits.advance i.first i.others i.open_are) (subst (λ (g : Setting). IsInstance flow defs g l i.first i.paths) (judged_alone old f.form_is f.no_cuts f.no_heads) i.instance)
+            v.branches_are (is_coming i.first i.others i.open_are).0 (is_coming i.first i.others i.open_are).1 turned;
         reads = λ k well judge.
             let r = f.reads k well judge in
-            let m = more k well judge f.behind l r.last old new r.read r.stands f.of_flow f.of_defs applied in
+            let m = more k well judge (line.Pass ∷ f.rules) l r.last old new r.read r.stands f.of_flow f.of_defs applied in
             let i = ruled_by k well judge l r.last old m.next (goes_by_rule l goes) r.stands f.of_flow f.of_defs f.ruled m.line_read in
             let same : r.last.stuck ≡ m.next.stuck =
             sym (i.stuck_are ∙ ap (λ (bs : List Path). r.last.stuck ++ bs) (goes_unmarked l i.first goes) ∙ append-nil r.last.stuck) in
@@ -229,86 +258,96 @@ module _ (laws : DocumentsAreFollowed) (flow : Flow) (defs : List Def) (valid : 
               last = m.next;
               read = m.read;
               stands = m.stands;
-              alarms = subst (λ (bs : List Path). AreAlarmLines flow defs bs text) same r.alarms;
+              stuck_are = sym same ∙ r.stuck_are;
             };
         counted = count ∙ ap (λ (m : ℕ). m + ending l) f.counted ∙ sym (ended_more lines l);
         within = few;
         no_loops = f.no_loops;
         uncut = uncut_more lines l (rule_uncut l (goes_by_rule l goes)) ∙ f.uncut;
         unheaded = unheaded_more lines l f.unheaded (rule_unheaded l (goes_by_rule l goes));
-        in_place = placed_more_by lines l old text ended fits.stands f;
+        in_place = placed_more_by lines l old text ended tracks fits.stands f;
       }
 
   -- what it made of the first branch
-  pub turns : (lines : List Line) (l : Line) (old new : Position) (text : List ℕ) (ended : ℕ) → is_rule l ≡ true → IsFollowed flow defs lines old text ended
+  pub turns : (lines : List Line) (l : Line) (old new : Position) (text : List ℕ) (ended : ℕ) (tracks : List (Option Picks)) → is_rule l ≡ true → IsFollowed flow defs lines old text ended tracks
       → IsApplied l old new → IsTurned flow defs l old new
-  turns lines l old new text ended rule f applied =
+  turns lines l old new text ended tracks rule f applied =
       let one = laws.judges flow defs valid in
       let r = f.reads one.0 one.1 one.2 in
-      let m = more one.0 one.1 one.2 f.behind l r.last old new r.read r.stands f.of_flow f.of_defs applied in
+      let m = more one.0 one.1 one.2 (line.Pass ∷ f.rules) l r.last old new r.read r.stands f.of_flow f.of_defs applied in
       let i = ruled_by one.0 one.1 one.2 l r.last old m.next rule r.stands f.of_flow f.of_defs f.ruled m.line_read in
       let v = moved_by one.0 one.1 one.2 l r.last m.next old new r.stands m.stands i in
       record { first = i.first; others = i.others; branches_are = i.open_are; next = i.paths; instance = i.instance; come = v.branches_are }
 
-  pub sticks : (lines : List Line) (old new : Position) (text told : List ℕ) (ended n : ℕ) (b : Path)
-      → IsFollowed flow defs lines old text ended → Some b ≡ option_map (λ (c : Path × List Path). c.0) (first_branch old.branches)
-      → IsAlarmLine flow defs b.point b.state told → IsApplied line.C1 old new → n ≡ ended + 1 → n ≤ 65536
-      → IsFollowed flow defs (lines ++ line.C1 ∷ []) new (text ++ told) n
-  sticks lines old new text told ended n b f current is applied count few =
+  pub sticks : (lines : List Line) (old new : Position) (text told : List ℕ) (ended : ℕ) (tracks : List (Option Picks)) (n : ℕ) (b : Path) (gap : Gap)
+      (mark : Option (List ℕ)) (after : List (Option Picks))
+      → IsFollowed flow defs lines old text ended tracks → Some b ≡ option_map (λ (c : Path × List Path). c.0) (first_branch old.branches)
+      → IsAlarmLine flow defs b.point b.state told → IsApplied line.C1 old new → n ≡ ended + 1 → n ≤ 65536 → IsUnmet flow defs b.point b.state gap
+      → ((track : Option Picks) (rest : List (Option Picks)) → tracks ≡ track ∷ rest → IsMark b.state track gap mark × (after ≡ rest))
+      → IsFollowed flow defs (lines ++ line.C1 ∷ []) new (text ++ (told ++ real_line mark)) n after
+  sticks lines old new text told ended tracks n b gap mark after f current is applied count few unmet turned =
       let one = laws.judges flow defs valid in
       let r = f.reads one.0 one.1 one.2 in
-      let m = more one.0 one.1 one.2 f.behind line.C1 r.last old new r.read r.stands f.of_flow f.of_defs applied in
+      let m = more one.0 one.1 one.2 (line.Pass ∷ f.rules) line.C1 r.last old new r.read r.stands f.of_flow f.of_defs applied in
       let i = ruled_by one.0 one.1 one.2 line.C1 r.last old m.next refl r.stands f.of_flow f.of_defs f.ruled m.line_read in
       let v = moved_by one.0 one.1 one.2 line.C1 r.last m.next old new r.stands m.stands i in
       let before : AreOpen flow (i.first ∷ i.others) = subst (AreOpen flow) i.open_are f.open_are in
       let stuck : IsStuck flow defs (setting_at old) i.first i.paths = i.instance in
+      let gone : new.branches ≡ i.others = v.branches_are ∙ ap (λ (bs : List Path). bs ++ i.others) stuck.gives in
+      let own : b ≡ i.first = first_is one.0 one.1 one.2 old b i.first i.others i.open_are current in
+      let alone_there : IsInstance flow defs alone line.C1 i.first i.paths =
+      subst (λ (g : Setting). IsInstance flow defs g line.C1 i.first i.paths) (judged_alone old f.form_is f.no_cuts f.no_heads) i.instance in
       record {
         form_is = v.form_is ∙ f.form_is;
         no_cuts = v.cuts_are ∙ f.no_cuts;
-        open_are = subst (AreOpen flow) (sym (v.branches_are ∙ ap (λ (bs : List Path). bs ++ i.others) stuck.gives)) before.1;
+        no_heads = v.heads_are ∙ f.no_heads;
+        open_are = subst (AreOpen flow) (sym gone) before.1;
         valid = valid;
-        behind = f.behind ++ line.C1 ∷ [];
-        spelled = spelled_more lines f.behind line.C1 f.spelled;
+        rules = f.rules ++ line.C1 ∷ [];
+        alarms = f.alarms ++ (b, mark) ∷ [];
+        told = alarm_more flow defs f.alarms (b, mark) text told f.told is;
+        marked = marked_stuck flow defs f.rules old.branches tracks f.alarms b i.others i.paths new.branches gap mark after f.marked
+            (i.open_are ∙ ap (λ (c : Path). c ∷ i.others) (sym own)) (subst (λ (c : Path). IsInstance flow defs alone line.C1 c i.paths) (sym own) alone_there) gone unmet turned;
+        spelled = spelled_more lines (line.Pass ∷ f.rules) line.C1 f.spelled;
         of_flow = m.of_flow;
         of_defs = m.of_defs;
         ruled = still_begun one.0 one.1 one.2 m.next new m.stands i.begun_still;
         reads = λ k well judge.
             let r = f.reads k well judge in
-            let m = more k well judge f.behind line.C1 r.last old new r.read r.stands f.of_flow f.of_defs applied in
+            let m = more k well judge (line.Pass ∷ f.rules) line.C1 r.last old new r.read r.stands f.of_flow f.of_defs applied in
             let i = ruled_by k well judge line.C1 r.last old m.next refl r.stands f.of_flow f.of_defs f.ruled m.line_read in
             let own : b ≡ i.first = first_is k well judge old b i.first i.others i.open_are current in
-            let same : r.last.stuck ++ b ∷ [] ≡ m.next.stuck =
-            ap (λ (c : Path). r.last.stuck ++ c ∷ []) own ∙ sym i.stuck_are in
             record {
               last = m.next;
               read = m.read;
               stands = m.stands;
-              alarms = subst (λ (bs : List Path). AreAlarmLines flow defs bs (text ++ told)) same (alarm_more flow defs r.last.stuck b text told r.alarms is);
+              stuck_are = i.stuck_are ∙ ap₂ (λ (bs : List Path) (c : Path). bs ++ c ∷ []) r.stuck_are (sym own)
+                  ∙ sym (map-append (λ (a : Alarm). a.0) f.alarms ((b, mark) ∷ []));
             };
         counted = count ∙ ap (λ (m : ℕ). m + 1) f.counted ∙ sym (ended_more lines line.C1);
         within = few;
         no_loops = f.no_loops;
         uncut = uncut_more lines line.C1 refl ∙ f.uncut;
         unheaded = unheaded_more lines line.C1 f.unheaded refl;
-        in_place = placed_more_by lines line.C1 old text ended (plain_stands line.C1 old.branches i.others i.first i.open_are stuck.plain) f;
+        in_place = placed_more_by lines line.C1 old text ended tracks (plain_stands line.C1 old.branches i.others i.first i.open_are stuck.plain) f;
       }
 
   -- the line that ends the 65,537th branch is the last
-  pub crowds : (lines : List Line) (l : Line) (old new : Position) (text : List ℕ) (ended n : ℕ) → is_rule l ≡ true → may_stand l old.branches ≡ true
-      → IsFollowed flow defs lines old text ended → IsApplied l old new → n ≡ ended + ending l → 65536 < n
+  pub crowds : (lines : List Line) (l : Line) (old new : Position) (text : List ℕ) (ended : ℕ) (tracks : List (Option Picks)) (n : ℕ) → is_rule l ≡ true → may_stand l old.branches ≡ true
+      → IsFollowed flow defs lines old text ended tracks → IsApplied l old new → n ≡ ended + ending l → 65536 < n
       → IsCrowded flow defs (lines ++ l ∷ [])
-  crowds lines l old new text ended n rule may f applied count many =
+  crowds lines l old new text ended tracks n rule may f applied count many =
       let own : ended ≡ ended_by lines = f.counted in
       let few : ended ≤ 65536 = f.within in
       let one : ending l ≤ 1 = ends_one l in
       let more_ended : ended_by (lines ++ l ∷ []) ≡ ended_by lines + ending l = ended_more lines l in
       record {
         front = record {
-          behind = f.behind ++ l ∷ [];
-          spelled = spelled_more lines f.behind l f.spelled;
+          behind = (line.Pass ∷ f.rules) ++ l ∷ [];
+          spelled = spelled_more lines (line.Pass ∷ f.rules) l f.spelled;
           reads = λ k well judge.
               let r = f.reads k well judge in
-              let m = more k well judge f.behind l r.last old new r.read r.stands f.of_flow f.of_defs applied in
+              let m = more k well judge (line.Pass ∷ f.rules) l r.last old new r.read r.stands f.of_flow f.of_defs applied in
               let i = ruled_by k well judge l r.last old m.next rule r.stands f.of_flow f.of_defs f.ruled m.line_read in
               record { last = m.next; read = m.read; not_ended = λ e. (let clash : ruling ≡ finished = sym i.begun_still ∙ e in cc clash) };
         };
@@ -317,7 +356,7 @@ module _ (laws : DocumentsAreFollowed) (flow : Flow) (defs : List Def) (valid : 
         last_is = refl;
         before_last = omega (arith, own, few, one, count, many);
         with_last = omega (arith, own, few, one, count, many, more_ended);
-        places = places_more lines l old text ended (rule_uncut l rule) may f;
+        places = places_more lines l old text ended tracks (rule_uncut l rule) may f;
       }
 
   -- ---- the pass
@@ -327,6 +366,7 @@ module _ (laws : DocumentsAreFollowed) (flow : Flow) (defs : List Def) (valid : 
     pub none : next.stuck ≡ []
     pub form_is : next.form ≡ Chain
     pub no_cuts : next.cuts ≡ []
+    pub no_heads : next.heads ≡ []
     pub branches_are : next.branches ≡ roots flow []
 
   passed : (k : Knowledge) (well : RawState → Bool) (next : Reading) → reading_line k well flow defs line.Pass (begun Chain) ≡ Ok next → IsPassed next
@@ -337,11 +377,12 @@ module _ (laws : DocumentsAreFollowed) (flow : Flow) (defs : List Def) (valid : 
         none = sym (ap (λ (r : Reading). r.stuck) same);
         form_is = sym (ap (λ (r : Reading). r.form) same);
         no_cuts = sym (ap (λ (r : Reading). r.cuts) same);
+        no_heads = sym (ap (λ (r : Reading). r.heads) same);
         branches_are = sym (ap (λ (r : Reading). r.branches) same);
       }
 
   pub starts : flow.heads ≡ [] → (old new : Position) → old ≡ position_of flow defs (begun Chain) → IsApplied line.Pass old new
-      → IsFollowed flow defs (line.Header One Chain ∷ line.Pass ∷ []) new [] 0
+      → IsFollowed flow defs (line.Header One Chain ∷ line.Pass ∷ []) new [] 0 (Some [] ∷ [])
   starts no_loops old new is applied =
       let pf : old.flow ≡ flow = ap (λ (p : Position). p.flow) is in
       let pd : old.defs ≡ defs = ap (λ (p : Position). p.defs) is in
@@ -353,9 +394,18 @@ module _ (laws : DocumentsAreFollowed) (flow : Flow) (defs : List Def) (valid : 
       record {
         form_is = sym (ap (λ (q : Position). q.form) m.stands.here) ∙ i.form_is;
         no_cuts = sym (ap (λ (q : Position). q.cuts) m.stands.here) ∙ i.no_cuts;
+        no_heads = sym (ap (λ (q : Position). q.heads) m.stands.here) ∙ ap states_of i.no_heads;
         open_are = subst (AreOpen flow) (sym (sym (ap (λ (q : Position). q.branches) m.stands.here) ∙ i.branches_are)) ((valid.begins, refl), tt);
         valid = valid;
-        behind = line.Pass ∷ [];
+        rules = [];
+        alarms = [];
+        told = refl;
+        marked = record {
+          is_open = (entry_path flow, Some []) ∷ [];
+          branches_are = sym (ap (λ (q : Position). q.branches) m.stands.here) ∙ i.branches_are;
+          tracks_are = refl;
+          tracked = entry;
+        };
         spelled = refl;
         of_flow = m.of_flow;
         of_defs = m.of_defs;
@@ -367,7 +417,7 @@ module _ (laws : DocumentsAreFollowed) (flow : Flow) (defs : List Def) (valid : 
               last = m.next;
               read = m.read;
               stands = m.stands;
-              alarms = subst (λ (bs : List Path). AreAlarmLines flow defs bs []) (sym i.none) refl;
+              stuck_are = i.none;
             };
         counted = refl;
         within = omega arith;
@@ -422,34 +472,30 @@ module _ (laws : DocumentsAreFollowed) (flow : Flow) (defs : List Def) (valid : 
       record { stage = sym (ap (λ (r : Reading). r.stage) same); same = sym (ap (λ (r : Reading). r.stuck) same) }
   ends_in last next finished e is = absurd (cc e)
 
-  pub record HasEnded (lines : List Line) (text : List ℕ) (new : Position) : Type 0 where
-    pub stuck : List Path
-    pub chain : IsShortChain flow defs (lines ++ line.End ∷ []) stuck
-    pub alarms : AreAlarmLines flow defs stuck text
-    pub counted : new.stuck ≡ length stuck
+  pub record HasEnded (lines : List Line) (alarms : List Alarm) (new : Position) : Type 0 where
+    pub chain : IsShortChain flow defs (lines ++ line.End ∷ []) (map (λ a. a.0) alarms)
+    pub counted : new.stuck ≡ length alarms
     pub ended : new.stage ≡ finished
 
-  pub ends : (lines : List Line) (old new : Position) (text : List ℕ) (ended : ℕ) → IsFollowed flow defs lines old text ended
-      → IsApplied line.End old new → HasEnded lines text new
-  ends lines old new text ended f applied =
+  pub ends : (lines : List Line) (old new : Position) (text : List ℕ) (ended : ℕ) (tracks : List (Option Picks)) → (f : IsFollowed flow defs lines old text ended tracks)
+      → IsApplied line.End old new → HasEnded lines f.alarms new
+  ends lines old new text ended tracks f applied =
       let one = laws.judges flow defs valid in
       let r = f.reads one.0 one.1 one.2 in
-      let m = more one.0 one.1 one.2 f.behind line.End r.last old new r.read r.stands f.of_flow f.of_defs applied in
+      let m = more one.0 one.1 one.2 (line.Pass ∷ f.rules) line.End r.last old new r.read r.stands f.of_flow f.of_defs applied in
       let i = ends_in r.last m.next r.last.stage (stage_is one.0 one.1 one.2 r.last old r.stands f.ruled) m.line_read in
       record {
-        stuck = r.last.stuck;
-        chain = subst (λ (ls : List Line). IsShortChain flow defs ls r.last.stuck) (sym (spelled_more lines f.behind line.End f.spelled))
-            ((laws.chains one.0 one.1 flow defs (f.behind ++ line.End ∷ []) r.last.stuck valid one.2).0
-            (record { last = m.next; read = m.read; ended = i.stage; stuck_are = i.same }));
-        alarms = r.alarms;
-        counted = sym (ap (λ (q : Position). q.stuck) m.stands.here) ∙ ap (λ (bs : List Path). length bs) i.same;
+        chain = subst (λ (ls : List Line). IsShortChain flow defs ls (map (λ a. a.0) f.alarms)) (sym (spelled_more lines (line.Pass ∷ f.rules) line.End f.spelled))
+            ((laws.chains one.0 one.1 flow defs ((line.Pass ∷ f.rules) ++ line.End ∷ []) (map (λ a. a.0) f.alarms) valid one.2).0
+            (record { last = m.next; read = m.read; ended = i.stage; stuck_are = i.same ∙ r.stuck_are }));
+        counted = sym (ap (λ (q : Position). q.stuck) m.stands.here) ∙ ap (λ (bs : List Path). length bs) (i.same ∙ r.stuck_are) ∙ length-map f.alarms (λ (a : Alarm). a.0);
         ended = sym (ap (λ (q : Position). q.stage) m.stands.here) ∙ i.stage;
       }
 
   -- where no branch is open, it is never refused
-  pub end_is_taken : (lines : List Line) (old : Position) (text : List ℕ) (ended premise : ℕ) → IsFollowed flow defs lines old text ended
+  pub end_is_taken : (lines : List Line) (old : Position) (text : List ℕ) (ended : ℕ) (tracks : List (Option Picks)) (premise : ℕ) → IsFollowed flow defs lines old text ended tracks
       → old.branches ≡ [] → IsRefusedHere line.End old premise → ⊥
-  end_is_taken lines old text ended premise f none refused =
+  end_is_taken lines old text ended tracks premise f none refused =
       let one = laws.judges flow defs valid in
       let k = one.0 in
       let well = one.1 in
@@ -471,10 +517,10 @@ pub stays_onward : (flow : Flow) (defs : List Def) (walk : Walk) → IsWalk flow
 stays_onward flow defs walk f = (λ few. f, λ many. (let few : walk.ended ≤ 65536 = f.within in absurd (omega (arith, few, many))))
 
 -- for equal lines and texts
-pub same_followed : (flow : Flow) (defs : List Def) (lines own : List Line) (p : Position) (text mine : List ℕ) (ended : ℕ) → own ≡ lines → mine ≡ text
-    → IsFollowed flow defs lines p text ended → IsFollowed flow defs own p mine ended
-same_followed flow defs lines own p text mine ended e g f =
-    subst (λ (t : List ℕ). IsFollowed flow defs own p t ended) (sym g) (subst (λ (ls : List Line). IsFollowed flow defs ls p text ended) (sym e) f)
+pub same_followed : (flow : Flow) (defs : List Def) (lines own : List Line) (p : Position) (text mine : List ℕ) (ended : ℕ) (tracks : List (Option Picks)) → own ≡ lines → mine ≡ text
+    → IsFollowed flow defs lines p text ended tracks → IsFollowed flow defs own p mine ended tracks
+same_followed flow defs lines own p text mine ended tracks e g f =
+    subst (λ (t : List ℕ). IsFollowed flow defs own p t ended tracks) (sym g) (subst (λ (ls : List Line). IsFollowed flow defs ls p text ended tracks) (sym e) f)
 
 -- the same line
 pub same_sure : (flow : Flow) (defs : List Def) (asked : Option Line) (l m : Line) (p : Position) → asked ≡ Some l → asked ≡ Some m → IsSure flow defs l p → IsSure flow defs m p
@@ -519,8 +565,8 @@ current_is p c b others is e =
     let some : Some c ≡ Some b = e ∙ ap (λ (bs : List Path). option_map (λ (d : Path × List Path). d.0) (first_branch bs)) is in cc some
 
 -- the first branch has no instance of a line that is refused, and is as a line that is right needs
-module _ (laws : DocumentsAreFollowed) (flow : Flow) (defs : List Def) (lines : List Line) (p : Position) (text : List ℕ) (ended : ℕ)
-    (f : IsFollowed flow defs lines p text ended) where
+module _ (laws : DocumentsAreFollowed) (flow : Flow) (defs : List Def) (lines : List Line) (p : Position) (text : List ℕ) (ended : ℕ) (tracks : List (Option Picks))
+    (f : IsFollowed flow defs lines p text ended tracks) where
   pub refused_nowhere : (l : Line) (premise : ℕ) → is_rule l ≡ true → IsRefusedHere l p premise → IsNowhere flow defs l p
   refused_nowhere l premise rule refused b others next is i =
       let one = laws.judges flow defs f.valid in
@@ -645,27 +691,35 @@ goes_away flow defs l old new t none b others is =
     same_others b c bs cs e = cc e
 
 -- nothing is changed by a line that is refused
-pub refused_stays : (flow : Flow) (defs : List Def) (lines : List Line) (old new : Position) (text : List ℕ) (ended : ℕ) → new ≡ old
-    → IsFollowed flow defs lines old text ended → IsFollowed flow defs lines new text ended
-refused_stays flow defs lines old new text ended e f = subst (λ (p : Position). IsFollowed flow defs lines p text ended) (sym e) f
+pub refused_stays : (flow : Flow) (defs : List Def) (lines : List Line) (old new : Position) (text : List ℕ) (ended : ℕ) (tracks : List (Option Picks)) → new ≡ old
+    → IsFollowed flow defs lines old text ended tracks → IsFollowed flow defs lines new text ended tracks
+refused_stays flow defs lines old new text ended tracks e f = subst (λ (p : Position). IsFollowed flow defs lines p text ended tracks) (sym e) f
 
-pub whole_is : (laws : DocumentsAreFollowed) (flow : Flow) (defs : List Def) (lines : List Line) (old new : Position) (text : List ℕ) (ended count : ℕ)
-    (d : Document) → IsFollowed flow defs lines old text ended → old.branches ≡ [] → IsApplied line.End old new → count ≡ new.stuck
+pub whole_is : (laws : DocumentsAreFollowed) (flow : Flow) (defs : List Def) (lines : List Line) (old new : Position) (text : List ℕ) (ended : ℕ) (tracks : List (Option Picks)) (count : ℕ)
+    (d : Document) → IsFollowed flow defs lines old text ended tracks → old.branches ≡ [] → IsApplied line.End old new → count ≡ new.stuck
     → d.lines.items ≡ lines ++ line.End ∷ [] → d.text.items ≡ text ++ count_line count → d.count ≡ count → IsWhole flow defs d
-whole_is laws flow defs lines old new text ended count d f none applied is_count is_lines is_text is_own =
-    let h = ends laws flow defs f.valid lines old new text ended f applied in
-    let counted : count ≡ length h.stuck = is_count ∙ h.counted in
+whole_is laws flow defs lines old new text ended tracks count d f none applied is_count is_lines is_text is_own =
+    let h = ends laws flow defs f.valid lines old new text ended tracks f applied in
+    let stuck : List Path = map (λ a. a.0) f.alarms in
+    let counted : count ≡ length f.alarms = is_count ∙ h.counted in
     let within : ended ≤ 65536 = f.within in
     let own : ended ≡ ended_by lines = f.counted in
     let last : ended_by (lines ++ line.End ∷ []) ≡ ended_by lines + 0 = ended_more lines line.End in
     let all : ended_by d.lines.items ≡ ended_by (lines ++ line.End ∷ []) = ap ended_by is_lines in
-    let chain : IsShortChain flow defs d.lines.items h.stuck = subst (λ (ls : List Line). IsShortChain flow defs ls h.stuck) (sym is_lines) h.chain in
+    let chain : IsShortChain flow defs d.lines.items stuck = subst (λ (ls : List Line). IsShortChain flow defs ls stuck) (sym is_lines) h.chain in
     record {
-      stuck = h.stuck;
+      stuck = stuck;
+      alarms = f.alarms;
+      stuck_are = refl;
       chain = chain;
-      report = headless_report flow defs d.lines.items h.stuck chain text d.text.items
-          (ap heads_of is_lines ∙ unheaded_more lines line.End f.unheaded refl) h.alarms (is_text ∙ ap (λ (n : ℕ). text ++ count_line n) counted);
-      counted = is_own ∙ counted;
+      marked = record {
+        rules = f.rules;
+        spelled = is_lines ∙ ap (λ (ls : List Line). ls ++ line.End ∷ []) f.spelled;
+        ends = ended_tracks flow defs f.rules old.branches tracks f.alarms none f.marked;
+      };
+      report = headless_report flow defs d.lines.items stuck f.alarms chain text d.text.items
+          (ap heads_of is_lines ∙ unheaded_more lines line.End f.unheaded refl) f.told (is_text ∙ ap (λ (n : ℕ). text ++ count_line n) counted);
+      counted = is_own ∙ counted ∙ sym (length-map f.alarms (λ (a : Alarm). a.0));
       within = omega (arith, within, own, last, all);
-      places = subst (HasPlaces flow defs Chain) (sym is_lines) (places_more laws flow defs f.valid lines line.End old text ended refl (ap (may_stand line.End) none) f);
+      places = subst (HasPlaces flow defs Chain) (sym is_lines) (places_more laws flow defs f.valid lines line.End old text ended tracks refl (ap (may_stand line.End) none) f);
     }

@@ -34,6 +34,7 @@ use Rattle.mc_state.specs.Facts.{IsFalse}
 use Rattle.mc_state.specs.Fits.{IsBounded, IsWellMade}
 use Rattle.mc_state.specs.State.{State, next_node}
 use Rattle.mc_state.specs.Terms.{plain}
+use Rattle.mc_exact.specs.Exact.{Picks}
 use Rattle.mc_follow.specs.Alarms.Laws.{DocumentsAreFollowed}
 use Rattle.mc_follow.specs.Alarms.Sides.{AreMarksMet, AreMetsOf, AreToName, GoesOn, HasMet, HasName, HaveNames, IsAtGoal, IsAtMark, IsAtMarks, IsBegun, IsDone, IsKnownWritten, IsLastEdge, IsMarkMet, IsNamedSide, IsNextNode, IsSide, IsSound, IsToName, IsUnderway, IsWrong, MayName, MayNameAll, PushesLast, TellsFalse, TellsSound}
 use Rattle.mc_document.specs.Places.{may_stand_aside}
@@ -425,20 +426,20 @@ covered_at defs p goal s others at side =
     let goals : at.goal ≡ goal = same_some at.goal goal (sym at.side ∙ (ap (λ (c : Path). c.goal) same.0 ∙ side.goal_is)) in
     subst (λ (g : Goal). IsCovered defs s g) goals (subst (λ (t : State). IsCovered defs t at.goal) (ap (λ (c : Path). c.state) same.0 ∙ side.state_is) at.covered)
 
-module _ (laws : DocumentsAreFollowed) (flow : Flow) (defs : List Def) (lines : List Line) (p : Position) (text : List ℕ) (ended : ℕ) (f : IsFollowed flow defs lines p text ended)
+module _ (laws : DocumentsAreFollowed) (flow : Flow) (defs : List Def) (lines : List Line) (p : Position) (text : List ℕ) (ended : ℕ) (tracks : List (Option Picks)) (f : IsFollowed flow defs lines p text ended tracks)
     (goal : Goal) (s : State) (others : List Path) (side : IsSide p goal s others) where
   -- its state is well made, and a test tells what is entailed there
   pub side_made : IsWellMade defs flow.vars flow.structs.list s
   side_made =
-      subst (λ (t : State). IsWellMade defs flow.vars flow.structs.list t) side.state_is (told laws flow defs lines p text ended f side.first others side.branches_are).made
+      subst (λ (t : State). IsWellMade defs flow.vars flow.structs.list t) side.state_is (told laws flow defs lines p text ended tracks f side.first others side.branches_are).made
 
   -- so it may be made where the state is not false
   module _ (at : IsAtCovered defs p) (sound : IsFalse s → ⊥) where
     abbrev pub task_of : Task
-    task_of = record { know = (told laws flow defs lines p text ended f side.first others side.branches_are).know; before = s; goal = goal }
+    task_of = record { know = (told laws flow defs lines p text ended tracks f side.first others side.branches_are).know; before = s; goal = goal }
 
     pub tells_of : Tells task_of.know s
-    tells_of = subst (Tells task_of.know) side.state_is (told laws flow defs lines p text ended f side.first others side.branches_are).tells
+    tells_of = subst (Tells task_of.know) side.state_is (told laws flow defs lines p text ended tracks f side.first others side.branches_are).tells
 
     pub begun_of : IsBegun flow defs task_of others p
     begun_of = record {
@@ -466,8 +467,8 @@ mets_found defs p c goal e is front found own s others know side tells =
 abbrev pub AreBounded : Position → Type 0
 AreBounded p = (goal : Goal) (s : State) (others : List Path) → IsSide p goal s others → IsBounded s
 
-pub are_bounded : (laws : DocumentsAreFollowed) (flow : Flow) (defs : List Def) (lines : List Line) (p : Position) (text : List ℕ) (ended : ℕ) → IsFollowed flow defs lines p text ended → AreBounded p
-are_bounded laws flow defs lines p text ended f goal s others side = (side_made laws flow defs lines p text ended f goal s others side).bounded
+pub are_bounded : (laws : DocumentsAreFollowed) (flow : Flow) (defs : List Def) (lines : List Line) (p : Position) (text : List ℕ) (ended : ℕ) (tracks : List (Option Picks)) → IsFollowed flow defs lines p text ended tracks → AreBounded p
+are_bounded laws flow defs lines p text ended tracks f goal s others side = (side_made laws flow defs lines p text ended tracks f goal s others side).bounded
 
 -- ---- what is asked of the first branch
 
@@ -633,15 +634,15 @@ none_false p answer tells e goal s others side wrong = let two : true ≡ false 
 pub false_there : (defs : List Def) (p : Position) (answer : Bool) → TellsFalse p answer → answer ≡ true → HasMet p p None
 false_there defs p answer tells e goal s others side = record { goal = goal; state = s; side = side; wrong = (tells goal s others side).0 e }
 
-module _ (laws : DocumentsAreFollowed) (flow : Flow) (defs : List Def) (lines : List Line) (old : Position) (text : List ℕ) (ended : ℕ) (f : IsFollowed flow defs lines old text ended)
+module _ (laws : DocumentsAreFollowed) (flow : Flow) (defs : List Def) (lines : List Line) (old : Position) (text : List ℕ) (ended : ℕ) (tracks : List (Option Picks)) (f : IsFollowed flow defs lines old text ended tracks)
     (at : IsAtCovered defs old) (sound : IsSound old) where
   pub goal_there_now : IsAtGoal flow defs old
   goal_there_now =
       let side = covered_side defs old at.first at.others at at.branches_are in
       record {
-        w = task_of laws flow defs lines old text ended f at.goal at.first.state at.others side at (sound at.goal at.first.state at.others side);
+        w = task_of laws flow defs lines old text ended tracks f at.goal at.first.state at.others side at (sound at.goal at.first.state at.others side);
         others = at.others;
-        begun = begun_of laws flow defs lines old text ended f at.goal at.first.state at.others side at (sound at.goal at.first.state at.others side);
+        begun = begun_of laws flow defs lines old text ended tracks f at.goal at.first.state at.others side at (sound at.goal at.first.state at.others side);
       }
 
   module _ (mid : Position) (front : List Met) (mets : AreMetsOf defs old front) (on : Bool) (yes : on ≡ true) (written : IsKnownWritten flow defs old mid on) where
@@ -655,8 +656,8 @@ module _ (laws : DocumentsAreFollowed) (flow : Flow) (defs : List Def) (lines : 
     module _ (new : Position) (ids : List EdgeId) (then : Bool) (met : AreMarksMet flow defs front mid [] new ids then) where
       goes_at : (goal : Goal) (s : State) (others : List Path) → IsSide old goal s others → (w : Task) × GoesOn flow defs w others new [] ids then
       goes_at goal s others side =
-          let w = task_of laws flow defs lines old text ended f goal s others side at (sound goal s others side) in
-          (w, met w others (written_at w others (begun_of laws flow defs lines old text ended f goal s others side at (sound goal s others side))))
+          let w = task_of laws flow defs lines old text ended tracks f goal s others side at (sound goal s others side) in
+          (w, met w others (written_at w others (begun_of laws flow defs lines old text ended tracks f goal s others side at (sound goal s others side))))
 
       last_at : GoalsAreMade → then ≡ true → (goal : Goal) (s : State) (others : List Path) → IsSide old goal s others → (id : EdgeId) × (ids ≡ id ∷ []) × IsDone new others id
       last_at made e goal s others side =
@@ -675,8 +676,8 @@ module _ (laws : DocumentsAreFollowed) (flow : Flow) (defs : List Def) (lines : 
 
   pub known_wrong : (mid : Position) (front : List Met) → AreMetsOf defs old front → (on : Bool) → on ≡ false → IsKnownWritten flow defs old mid on → HasMet old mid None
   known_wrong mid front mets on e written goal s others side =
-      let w = task_of laws flow defs lines old text ended f goal s others side at (sound goal s others side) in
-      let begun = begun_of laws flow defs lines old text ended f goal s others side at (sound goal s others side) in
+      let w = task_of laws flow defs lines old text ended tracks f goal s others side at (sound goal s others side) in
+      let begun = begun_of laws flow defs lines old text ended tracks f goal s others side at (sound goal s others side) in
       subst (GoesOn flow defs w others mid front []) e (written w others front begun (mets w.goal w.before others w.know begun.side begun.task.tells))
 
 -- ---- the line that ends it

@@ -16,7 +16,7 @@ use Rattle.mc_state.specs.declared.raw_state.RawState.{RawState}
 use Rattle.mc_state.specs.Covers.{Cover}
 use Rattle.mc_state.specs.Facts.{IsFalse}
 use Rattle.mc_state.specs.Fits.{ArgsFit}
-use Rattle.mc_state.specs.State.{State}
+use Rattle.mc_state.specs.State.{State, next_node}
 use Rattle.mc_state.specs.Terms.{plain}
 use Rattle.mc_kernel.specs.Branches.{IsPlain, Path}
 use Rattle.mc_kernel.specs.Instances.{IsInstance}
@@ -37,6 +37,8 @@ use Rattle.mc_state.specs.declared.goal.Goal.{Goal}
 use Rattle.mc_rules_steps.specs.declared.gap.Gap.{Gap}
 use Rattle.mc_rules_steps.specs.Operands.{code_at}
 use Rattle.mc_rules_steps.specs.Unmet.{IsUnmet}
+use Rattle.mc_follow.specs.Alarms.Tracks.{come}
+use Rattle.mc_follow.specs.declared.alarms.coming.Coming.{Coming}
 use Rattle.mc_follow.specs.declared.alarms.following.Act.{Act}
 use Rattle.mc_follow.specs.declared.alarms.following.Act.TheVariants.{Apply, EndSide, Code, Rest}
 use Rattle.mc_follow.specs.declared.alarms.walk.Walk.{Walk}
@@ -187,6 +189,11 @@ pub record IsSure (flow : Flow) (defs : List Def) (l : Line) (p : Position) : Ty
   pub goes : goes_on l ≡ true
   pub may : MayApply l p
   pub there : IsNowhere flow defs l p → ⊥
+
+-- what comes of a line at the first branch
+abbrev pub IsComing : List Def → Line → Position → Coming → Type 0
+IsComing defs l p c =
+    (b : Path) (others : List Path) → p.branches ≡ b ∷ others → (c.node ≡ next_node b.state) × (c.count ≡ come defs b.state l)
 
 -- its instruction is not unmet
 abbrev pub IsMet : Flow → List Def → Position → Type 0

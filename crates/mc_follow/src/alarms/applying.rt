@@ -5,25 +5,18 @@ ghost use Rattle.mc_follow.specs.Alarms.Walks.{AreCovered, IsAtCode, IsFirstGone
 ghost use Rattle.mc_flow.specs.Valid.{IsValid};
 
 use crate::alarms::laws::{branches_are_followed, documents_are_followed};
+use crate::alarms::coming::sum;
 use crate::alarms::lines::{ending, goes_on};
+use crate::alarms::mark::mark;
+use crate::alarms::tracks::Tracks;
 use crate::alarms::walk::Walk;
-use crate::report::push_alarm;
+use crate::report::{push_alarm, push_real};
 use mc_base::NoMemory;
 use mc_document::proof::{ApplyFault, Proof};
 use mc_flow::{Defs, Flow};
 use mc_lines::cert::Line;
 use mc_state::{Form, Version};
 use std::alloc::{AllocError, Global};
-
-/// The sum. No memory where it can't be counted.
-fn sum(left: u64, right: u64) -> Result<u64, NoMemory>
-    ensures { IfOk result (λ n. n ≡ left + right) }
-{
-    match left.checked_add(right) {
-        Some(sum) => Ok(sum),
-        None => Err(AllocError),
-    }
-}
 
 impl<'f> Walk<'f> {
     /// A chain of which the pass is begun.
@@ -44,6 +37,7 @@ impl<'f> Walk<'f> {
             Ok(()) => Ok(Walk {
                 alloc,
                 proof,
+                tracks: Tracks::entry(alloc)?,
                 lines,
                 text: Vec::new(alloc),
                 ended: 0,
@@ -71,9 +65,11 @@ impl<'f> Walk<'f> {
             return Ok(false);
         }
         let ended = sum(self.ended, ending(&line))?;
+        let coming = self.coming(defs, &line)?;
         match self.proof.apply(&line) {
             Ok(()) => {
                 self.ended = ended;
+                self.tracks.turn(&line, coming.node, coming.count)?;
                 self.lines.push(line)?;
                 Ok(true)
             }
@@ -115,20 +111,24 @@ impl<'f> Walk<'f> {
             return Ok(false);
         };
         let mut line = Vec::new(self.alloc);
-        if !push_alarm(
+        let found = push_alarm(
             self.alloc,
             &mut line,
             flow,
             defs,
             branch.point,
             &branch.state,
-        )? {
+        )?;
+        let Some(gap) = found else {
             return Ok(false);
-        }
+        };
+        let mark = mark(self.alloc, &branch.state, self.tracks.first(), gap)?;
+        push_real(self.alloc, &mut line, mark.as_ref())?;
         let ended = sum(self.ended, 1)?;
         match self.proof.apply(&Line::C1) {
             Ok(()) => {
                 self.ended = ended;
+                let _ended = self.tracks.pop();
                 self.lines.push(Line::C1)?;
                 self.text.extend_from_slice(line.as_slice())?;
                 Ok(true)

@@ -1,5 +1,7 @@
 // What lines do with the branch that they stand on.
 ghost use Rattle.std.specs.Prelude.{◌≡◌, ◌≤◌, ◌↔◌, true};
+ghost use Rattle.mc_exact.specs.Marks.{keeps_exact};
+ghost use Rattle.mc_follow.specs.Alarms.Tracks.{is_allocation};
 ghost use Rattle.mc_follow.specs.Alarms.Walks.{ended_by, ending, goes_on};
 
 use mc_lines::cert::Line;
@@ -20,6 +22,29 @@ pub fn goes_on(line: &Line) -> bool
         Line::End => false,
         Line::C1 => false,
         _ => true,
+    }
+}
+
+/// Whether a line is that of an allocation.
+pub fn is_allocation(line: &Line) -> bool
+    ensures { result ≡ is_allocation line.now }
+{
+    match line {
+        Line::Step(InstrRule::S10) => true,
+        _ => false,
+    }
+}
+
+/// Whether what comes of an exact branch by a line is exact.
+pub fn keeps_exact(line: &Line) -> bool
+    ensures { result ≡ keeps_exact line.now }
+{
+    match line {
+        Line::Step(InstrRule::S4) => false,
+        Line::Step(InstrRule::S15) => false,
+        Line::Step(InstrRule::S16) => false,
+        Line::Step(_) => true,
+        _ => false,
     }
 }
 

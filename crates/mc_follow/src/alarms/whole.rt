@@ -35,6 +35,7 @@ impl Walk<'_> {
             mut proof,
             mut lines,
             mut text,
+            tracks: _,
             ended: _,
         } = self;
         lines.push(Line::End)?;

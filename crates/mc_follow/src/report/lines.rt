@@ -1,7 +1,8 @@
 // The lines of a report.
-ghost use Rattle.std.specs.Prelude.{◌≡◌, ◌++◌, true, false, IfOk, OnOk};
+ghost use Rattle.std.specs.Prelude.{◌≡◌, ◌++◌, None, IfOk, IfSome, OnOk, codes, option_map};
 ghost use Rattle.mc_flow.specs.Valid.{IsValid};
-ghost use Rattle.mc_follow.specs.Report.Report.{IsAlarmLine, IsHeadLine, alarm_line, count_line, head_line};
+ghost use Rattle.mc_exact.specs.Scripts.{malloc_line};
+ghost use Rattle.mc_follow.specs.Report.Report.{IsAlarmLine, IsHeadLine, alarm_line, count_line, head_line, real_line, script_text};
 ghost use Rattle.mc_state.specs.RawStates.{IsWellFormedRaw};
 ghost use Rattle.mc_state_io.specs.Text.Text.{IsTextOf, Text};
 ghost use Rattle.mc_rules_steps.specs.declared.gap.Gap.{Gap as Lacked};
@@ -41,8 +42,8 @@ fn push_alarm_line(
     Ok(())
 }
 
-/// Adds the line of a branch that is stuck at a point with a state. With false the instruction lacks nothing there, and
-/// nothing is added.
+/// Adds the line of a branch that is stuck at a point with a state; what it lacks. With None the instruction lacks nothing there,
+/// and nothing is added.
 pub fn push_alarm(
     alloc: Global,
     out: &mut Vec<u8>,
@@ -50,15 +51,15 @@ pub fn push_alarm(
     defs: &Defs,
     point: PointId,
     state: &State,
-) -> Result<bool, NoMemory>
+) -> Result<Option<Gap>, NoMemory>
     requires { IsValid flow.now defs.now }
-    ensures stuck { IfOk result (λ lacks. lacks ≡ true
-        → (line : Text) × IsAlarmLine flow.now defs.now point state.now line × (out.new.items ≡ out.old.items ++ line)) }
-    ensures met { IfOk result (λ lacks. lacks ≡ false
+    ensures stuck { IfOk result (λ found. IfSome found (λ gap. IsUnmet flow.now defs.now point state.now gap
+        × ((line : Text) × IsAlarmLine flow.now defs.now point state.now line × (out.new.items ≡ out.old.items ++ line)))) }
+    ensures met { IfOk result (λ found. found ≡ None
         → (out.new.items ≡ out.old.items) × ((gap : Lacked) → IsUnmet flow.now defs.now point state.now gap → ⊥)) }
 {
     let Some(gap) = lacking_at(alloc, flow, defs, point, state)? else {
-        return Ok(false);
+        return Ok(None);
     };
     let text = print(
         alloc,
@@ -68,7 +69,43 @@ pub fn push_alarm(
         flow.structs.list.as_slice(),
     )?;
     push_alarm_line(alloc, out, flow, defs, point, gap, text.as_slice())?;
-    Ok(true)
+    Ok(Some(gap))
+}
+
+/// Adds the line of a script for an answer of malloc, after a blank.
+fn push_malloc(alloc: Global, out: &mut Vec<u8>, answer: u64) -> Result<(), NoMemory>
+    ensures { OnOk result (out.new.items ≡ out.old.items ++ (codes " " ++ malloc_line answer)) }
+{
+    out.extend_from_slice(b" [\"malloc\",")?;
+    print_number(alloc, out, answer)?;
+    out.push(b']')?;
+    Ok(())
+}
+
+/// Adds the lines of a script in which malloc gives these answers.
+fn push_script(alloc: Global, out: &mut Vec<u8>, answers: &[u64]) -> Result<(), NoMemory>
+    ensures { OnOk result (out.new.items ≡ out.old.items ++ script_text answers.now) }
+{
+    if answers.is_empty() {
+        return out.extend_from_slice(b" -");
+    }
+    for answer in answers {
+        push_malloc(alloc, out, *answer)?;
+    }
+    Ok(())
+}
+
+/// Adds the line of a mark: the script on which the program faults there.
+pub fn push_real(alloc: Global, out: &mut Vec<u8>, mark: Option<&Vec<u64>>) -> Result<(), NoMemory>
+    ensures { OnOk result (out.new.items ≡ out.old.items ++ real_line (option_map (λ answers. answers.now.items) mark)) }
+{
+    let Some(answers) = mark else {
+        return Ok(());
+    };
+    out.extend_from_slice(b"real:")?;
+    push_script(alloc, out, answers.as_slice())?;
+    out.push(b'\n')?;
+    Ok(())
 }
 
 /// Adds how many branches are stuck.

@@ -13,5 +13,6 @@ returns c =
       null_faults = proof.null_faults;
       freed_track = proof.freed_is_exact law;
       freed_unmet = proof.freed_is_unmet law;
+      marked = proof.freed_is_marked law c.derived_is_true.ensures.derived;
       freed_faults = proof.freed_faults c.heaps_change_one_address.ensures.insert c.heaps_change_one_address.ensures.remove;
     }

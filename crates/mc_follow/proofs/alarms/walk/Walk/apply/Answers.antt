@@ -21,18 +21,18 @@ returns-in-Ok-clause-follows c =
       λ few.
           same_followed flow defs _ c.push.new.self.items c.apply.new.self old.text.items old.text.items c.in_ok-ended.ended lines refl
           (goes_further laws flow defs valid c.branches_are_followed.ensures old.lines.items c.args.line old.proof c.apply.new.self old.text.items
-          old.ended c.in_ok-ended.ended goes c.requires.may c.requires.followed c.in-Ok.ensures.applies count few),
+          old.ended old.tracks c.in_ok-ended.ended goes c.requires.may c.requires.followed c.in-Ok.ensures.applies count few),
       λ many.
           subst (IsCrowded flow defs) (sym lines)
           (crowds laws flow defs valid old.lines.items c.args.line old.proof c.apply.new.self old.text.items
-          old.ended c.in_ok-ended.ended (goes_by_rule c.args.line goes) c.requires.may.stands c.requires.followed c.in-Ok.ensures.applies count many),
+          old.ended old.tracks c.in_ok-ended.ended (goes_by_rule c.args.line goes) c.requires.may.stands c.requires.followed c.in-Ok.ensures.applies count many),
     )
 
 pub returns-in-Err-Premise-clause-follows : goal.returns-in-Err-Premise-clause-follows
 returns-in-Err-Premise-clause-follows c =
     let old = c.args.self.now in
     let told = subst (λ (f : ApplyFault). Applies c.args.line old.proof c.apply.new.self (Err f)) c.in-Err-Premise.field-0-is c.in-Err-Premise.ensures.applies in
-    stays_onward c.args.flow.now c.args.defs.now (record old { proof = c.apply.new.self }) (refused_stays c.args.flow.now c.args.defs.now old.lines.items old.proof c.apply.new.self old.text.items old.ended told.1 c.requires.followed)
+    stays_onward c.args.flow.now c.args.defs.now (record old { proof = c.apply.new.self }) (refused_stays c.args.flow.now c.args.defs.now old.lines.items old.proof c.apply.new.self old.text.items old.ended old.tracks told.1 c.requires.followed)
 
 pub returns-in-Err-Premise-clause-refused : goal.returns-in-Err-Premise-clause-refused
 returns-in-Err-Premise-clause-refused c = λ e.
@@ -40,7 +40,7 @@ returns-in-Err-Premise-clause-refused c = λ e.
     let told = subst (λ (f : ApplyFault). Applies c.args.line old.proof c.apply.new.self (Err f)) c.in-Err-Premise.field-0-is c.in-Err-Premise.ensures.applies in (
       told.1,
       λ goes.
-          refused_nowhere c.documents_are_followed.ensures c.args.flow.now c.args.defs.now old.lines.items old.proof old.text.items old.ended c.requires.followed
+          refused_nowhere c.documents_are_followed.ensures c.args.flow.now c.args.defs.now old.lines.items old.proof old.text.items old.ended old.tracks c.requires.followed
           c.args.line _ (goes_by_rule c.args.line goes) told.0,
     )
 
@@ -49,4 +49,4 @@ returns-in-Ok-clause-turned c = λ e.
     let old = c.args.self.now in
     let goes : goes_on c.args.line ≡ true = sym c.goes_on.ensures ∙ c.if-not-goes_on.false in
     turns c.documents_are_followed.ensures c.args.flow.now c.args.defs.now c.requires.followed.valid old.lines.items c.args.line old.proof c.apply.new.self old.text.items
-    old.ended (goes_by_rule c.args.line goes) c.requires.followed c.in-Ok.ensures.applies
+    old.ended old.tracks (goes_by_rule c.args.line goes) c.requires.followed c.in-Ok.ensures.applies

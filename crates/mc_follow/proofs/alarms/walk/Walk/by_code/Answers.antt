@@ -12,7 +12,7 @@ turn-requires-clause-sure c =
     let old = c.args.self.now in
     let met = c.in_ok-stick.ensures.met c.if-branch.false in
     let line : IsCodeLine flow defs old.proof c.next_line.result = subst (λ (p : Position). IsCodeLine flow defs p c.next_line.result) met.0 c.next_line.ensures in
-    let sure = code_is_right c.documents_are_followed.ensures flow defs old.lines.items old.proof old.text.items old.ended c.requires.followed
+    let sure = code_is_right c.documents_are_followed.ensures flow defs old.lines.items old.proof old.text.items old.ended old.tracks c.requires.followed
     c.branches_are_followed.ensures c.next_line.result c.requires.here met.1 line in
     subst (λ (p : Position). IsSure flow defs c.in-Some.line p) (sym met.0)
     (same_sure flow defs c.next_line.result sure.0 c.in-Some.line old.proof sure.1 c.in-Some.is sure.2)
@@ -24,7 +24,7 @@ unreachable-requires c =
     let old = c.args.self.now in
     let met = c.in_ok-stick.ensures.met c.if-branch.false in
     let line : IsCodeLine flow defs old.proof c.next_line.result = subst (λ (p : Position). IsCodeLine flow defs p c.next_line.result) met.0 c.next_line.ensures in
-    let sure = code_is_right c.documents_are_followed.ensures flow defs old.lines.items old.proof old.text.items old.ended c.requires.followed
+    let sure = code_is_right c.documents_are_followed.ensures flow defs old.lines.items old.proof old.text.items old.ended old.tracks c.requires.followed
     c.branches_are_followed.ensures c.next_line.result c.requires.here met.1 line in
     let two : Some sure.0 ≡ None = sym sure.1 ∙ c.in-None.is in cc two
 
@@ -40,8 +40,8 @@ returns-clause-covered c =
     let new = c.turn.new.self.proof in
     let line = c.in-Some.line in
     let turned : IsTurned flow defs line old.proof new = subst (λ (p : Position). IsTurned flow defs line p new) met.0 c.in_ok-turn-in-Some.ensures.turned in
-    turned_covered laws flow defs old.lines.items old.proof old.text.items old.ended c.requires.followed covers line new turned
-    (first_plain laws flow defs old.lines.items old.proof old.text.items old.ended c.requires.followed covers line new turned here.first here.others here.branches_are here.plain)
+    turned_covered laws flow defs old.lines.items old.proof old.text.items old.ended old.tracks c.requires.followed covers line new turned
+    (first_plain laws flow defs old.lines.items old.proof old.text.items old.ended old.tracks c.requires.followed covers line new turned here.first here.others here.branches_are here.plain)
     (λ e. met.1) c.requires.covered
 
 pub returns-then-branch-clause-covered : goal.returns-then-branch-clause-covered

@@ -16,7 +16,7 @@ write_known-requires-clause-here c =
     let defs = c.args.defs.now in
     let old = c.args.self.now in
     let sound = none_false old.proof c.is_false.result c.is_false.ensures c.if-is_false.false in
-    goal_there_now c.documents_are_followed.ensures flow defs old.lines.items old.proof old.text.items old.ended c.requires.followed c.requires.here sound
+    goal_there_now c.documents_are_followed.ensures flow defs old.lines.items old.proof old.text.items old.ended old.tracks c.requires.followed c.requires.here sound
 
 pub returns-then-not-branch-clause-met : goal.returns-then-not-branch-clause-met
 returns-then-not-branch-clause-met c =
@@ -24,7 +24,7 @@ returns-then-not-branch-clause-met c =
     let defs = c.args.defs.now in
     let old = c.args.self.now in
     let sound = none_false old.proof c.is_false.result c.is_false.ensures c.if-is_false.false in
-    known_wrong c.documents_are_followed.ensures flow defs old.lines.items old.proof old.text.items old.ended c.requires.followed c.requires.here sound c.write_known.new.self.proof
+    known_wrong c.documents_are_followed.ensures flow defs old.lines.items old.proof old.text.items old.ended old.tracks c.requires.followed c.requires.here sound c.write_known.new.self.proof
     (reverse c.in_ok-mets.mets.items) c.in_ok-mets.ensures c.in_ok-write_known.field-0 c.if-not-branch.true c.in_ok-write_known.ensures.written
 
 pub meet_all-requires-clause-here : goal.meet_all-requires-clause-here
@@ -34,7 +34,7 @@ meet_all-requires-clause-here c =
     let old = c.args.self.now in
     let sound = none_false old.proof c.is_false.result c.is_false.ensures c.if-is_false.false in
     subst (λ (ids : List EdgeId). IsAtMarks flow defs c.write_known.new.self.proof (reverse c.in_ok-mets.mets.items) ids) (sym (ap reverse c.new-made.ensures.items))
-    (marks_there c.documents_are_followed.ensures flow defs old.lines.items old.proof old.text.items old.ended c.requires.followed c.requires.here sound c.write_known.new.self.proof
+    (marks_there c.documents_are_followed.ensures flow defs old.lines.items old.proof old.text.items old.ended old.tracks c.requires.followed c.requires.here sound c.write_known.new.self.proof
     (reverse c.in_ok-mets.mets.items) c.in_ok-mets.ensures c.in_ok-write_known.field-0 c.if-not-branch.false c.in_ok-write_known.ensures.written)
 
 pub returns-then-not-branch-2-clause-met : goal.returns-then-not-branch-2-clause-met
@@ -45,7 +45,7 @@ returns-then-not-branch-2-clause-met c =
     let sound = none_false old.proof c.is_false.result c.is_false.ensures c.if-is_false.false in
     let met = subst (λ (ids : List EdgeId). AreMarksMet flow defs (reverse c.in_ok-mets.mets.items) c.write_known.new.self.proof ids c.meet_all.new.self.proof (reverse c.meet_all.new.made.items)
     c.in_ok-meet_all.field-0) (ap reverse c.new-made.ensures.items) c.in_ok-meet_all.ensures.met in
-    goal_wrong c.documents_are_followed.ensures flow defs old.lines.items old.proof old.text.items old.ended c.requires.followed c.requires.here sound c.write_known.new.self.proof
+    goal_wrong c.documents_are_followed.ensures flow defs old.lines.items old.proof old.text.items old.ended old.tracks c.requires.followed c.requires.here sound c.write_known.new.self.proof
     (reverse c.in_ok-mets.mets.items) c.in_ok-mets.ensures c.in_ok-write_known.field-0 c.if-not-branch.false c.in_ok-write_known.ensures.written c.meet_all.new.self.proof
     (reverse c.meet_all.new.made.items) c.in_ok-meet_all.field-0 met c.if-not-branch-2.true
 
@@ -57,6 +57,6 @@ returns-clause-met c =
     let sound = none_false old.proof c.is_false.result c.is_false.ensures c.if-is_false.false in
     let met = subst (λ (ids : List EdgeId). AreMarksMet flow defs (reverse c.in_ok-mets.mets.items) c.write_known.new.self.proof ids c.meet_all.new.self.proof (reverse c.meet_all.new.made.items)
     c.in_ok-meet_all.field-0) (ap reverse c.new-made.ensures.items) c.in_ok-meet_all.ensures.met in
-    goal_met c.documents_are_followed.ensures flow defs old.lines.items old.proof old.text.items old.ended c.requires.followed c.requires.here sound c.write_known.new.self.proof
+    goal_met c.documents_are_followed.ensures flow defs old.lines.items old.proof old.text.items old.ended old.tracks c.requires.followed c.requires.here sound c.write_known.new.self.proof
     (reverse c.in_ok-mets.mets.items) c.in_ok-mets.ensures c.in_ok-write_known.field-0 c.if-not-branch.false c.in_ok-write_known.ensures.written c.meet_all.new.self.proof
     (reverse c.meet_all.new.made.items) c.in_ok-meet_all.field-0 met c.goals_are_made.ensures c.if-not-branch-2.false c.take_edge.result (reverse c.take_edge.new.made.items) c.take_edge.ensures

@@ -15,7 +15,7 @@ unreachable-requires-in-None c =
     let branch = c.in-Some.branch.now in
     let side = own_side old.proof (path branch) c.in-Some-goal.goal c.in-Some.ensures c.in-Some-goal.is in
     let none = rw c.in-None.is at c.in_ok-mets.ensures in
-    cover_found c.documents_are_followed.ensures c.args.flow.now c.args.defs.now old.lines.items old.proof old.text.items old.ended c.requires.followed c.in-Some-goal.goal branch.state side.0 side.1
+    cover_found c.documents_are_followed.ensures c.args.flow.now c.args.defs.now old.lines.items old.proof old.text.items old.ended old.tracks c.requires.followed c.in-Some-goal.goal branch.state side.0 side.1
     c.requires.here (c.requires.sound c.in-Some-goal.goal branch.state side.0 side.1) c.none_is_missed.ensures.cover none
 
 pub returns : goal.returns

@@ -32,11 +32,11 @@ returns-in-Ok-clause-follows c =
           same_followed flow defs _ c.push.new.self.items c.apply.new.self (old.text.items ++ own.0) c.extend_from_slice.new.self.items c.in_ok-ended.ended lines
           (c.in_ok-extend_from_slice-in-Ok.ensures.items ∙ ap (λ (t : List ℕ). old.text.items ++ t) (c.as_slice.ensures.value ∙ own.2 ∙ ap (λ (t : List ℕ). t ++ own.0) c.new-line.ensures.items))
           (sticks laws flow defs valid old.lines.items old.proof c.apply.new.self old.text.items own.0
-          old.ended c.in_ok-ended.ended (path c.in-Some.branch.now) c.requires.followed current own.1 c.in-Ok.ensures.applies c.in_ok-ended.ensures few),
+          old.ended old.tracks c.in_ok-ended.ended (path c.in-Some.branch.now) c.requires.followed current own.1 c.in-Ok.ensures.applies c.in_ok-ended.ensures few),
       λ many.
           subst (IsCrowded flow defs) (sym lines)
           (crowds laws flow defs valid old.lines.items C1 old.proof c.apply.new.self old.text.items
-          old.ended c.in_ok-ended.ended refl (plain_stands C1 old.proof.branches here.others here.first here.branches_are here.plain)
+          old.ended old.tracks c.in_ok-ended.ended refl (plain_stands C1 old.proof.branches here.others here.first here.branches_are here.plain)
           c.requires.followed c.in-Ok.ensures.applies c.in_ok-ended.ensures many),
     )
 
@@ -44,13 +44,13 @@ pub returns-in-Err-Premise-clause-still : goal.returns-in-Err-Premise-clause-sti
 returns-in-Err-Premise-clause-still c = λ e.
     let old = c.args.self.now in
     let told = subst (λ (f : ApplyFault). Applies C1 old.proof c.apply.new.self (Err f)) c.in-Err-Premise.field-0-is c.in-Err-Premise.ensures.applies in
-    refused_stays c.args.flow.now c.args.defs.now old.lines.items old.proof c.apply.new.self old.text.items old.ended told.1 c.requires.followed
+    refused_stays c.args.flow.now c.args.defs.now old.lines.items old.proof c.apply.new.self old.text.items old.ended old.tracks told.1 c.requires.followed
 
 pub returns-in-Err-Premise-clause-follows : goal.returns-in-Err-Premise-clause-follows
 returns-in-Err-Premise-clause-follows c =
     let old = c.args.self.now in
     let told = subst (λ (f : ApplyFault). Applies C1 old.proof c.apply.new.self (Err f)) c.in-Err-Premise.field-0-is c.in-Err-Premise.ensures.applies in
-    stays_onward c.args.flow.now c.args.defs.now (record old { proof = c.apply.new.self }) (refused_stays c.args.flow.now c.args.defs.now old.lines.items old.proof c.apply.new.self old.text.items old.ended told.1 c.requires.followed)
+    stays_onward c.args.flow.now c.args.defs.now (record old { proof = c.apply.new.self }) (refused_stays c.args.flow.now c.args.defs.now old.lines.items old.proof c.apply.new.self old.text.items old.ended old.tracks told.1 c.requires.followed)
 
 pub returns-in-Err-Premise-clause-met : goal.returns-in-Err-Premise-clause-met
 returns-in-Err-Premise-clause-met c = λ e.
@@ -60,8 +60,8 @@ returns-in-Err-Premise-clause-met c = λ e.
     let told = subst (λ (f : ApplyFault). Applies C1 old.proof c.apply.new.self (Err f)) c.in-Err-Premise.field-0-is c.in-Err-Premise.ensures.applies in
     let laws = c.documents_are_followed.ensures in (
       told.1,
-      stuck_is_right laws flow defs old.lines.items old.proof old.text.items old.ended c.requires.followed c.requires.here
-          (refused_nowhere laws flow defs old.lines.items old.proof old.text.items old.ended c.requires.followed C1 _ refl told.0),
+      stuck_is_right laws flow defs old.lines.items old.proof old.text.items old.ended old.tracks c.requires.followed c.requires.here
+          (refused_nowhere laws flow defs old.lines.items old.proof old.text.items old.ended old.tracks c.requires.followed C1 _ refl told.0),
     )
 
 pub returns-then-not-branch-clause-met : goal.returns-then-not-branch-clause-met
@@ -81,7 +81,7 @@ returns-in-Ok-clause-gone c = λ e.
     let flow = c.args.flow.now in
     let defs = c.args.defs.now in
     let old = c.args.self.now in
-    let turned = turns c.documents_are_followed.ensures flow defs c.requires.followed.valid old.lines.items C1 old.proof c.apply.new.self old.text.items old.ended refl
+    let turned = turns c.documents_are_followed.ensures flow defs c.requires.followed.valid old.lines.items C1 old.proof c.apply.new.self old.text.items old.ended old.tracks refl
     c.requires.followed c.in-Ok.ensures.applies in
     let stuck : IsStuck flow defs (setting_at old.proof) turned.first turned.next = turned.instance in
     goes_away flow defs C1 old.proof c.apply.new.self turned stuck.gives
