@@ -1,1 +1,1 @@
-pub mod ClosedAlarms
+pub mod ExactAlarms
