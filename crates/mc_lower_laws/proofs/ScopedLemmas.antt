@@ -6,3 +6,4 @@ pub mod Scoping
 pub mod Wholes
 pub mod Trees
 pub mod FlowFaults
+pub mod NearFaults

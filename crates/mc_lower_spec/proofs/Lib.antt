@@ -36,3 +36,5 @@ pub mod Beginning
 pub mod Declaring
 pub mod Scoped
 pub mod LengthLemmas
+pub mod Lasting
+pub mod Bounding

@@ -1,3 +1,3 @@
-pub mod ClosedAlarms
+pub mod ExactAlarms
 mod ScriptLines
 mod Marked

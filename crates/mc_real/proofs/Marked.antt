@@ -1,14 +1,11 @@
 -- Alarms that carry answers of malloc are real.
 use Rattle.std.proofs.Common.{◌≡◌, ◌≤◌, ◌<◌, ◌^◌, ℕ, List, [], ◌∷◌, map, sym, subst, arith}
 use Rattle.std.specs.List.{AllByRecursion}
-use Rattle.mc_flow.specs.Heap.Choices.{malloc}
-use Rattle.mc_flow.specs.Runs.{fault, Reaches}
 use Rattle.mc_flow.specs.Valid.{IsValid}
 use Rattle.mc_flow.specs.declared.defs.rules.Def.{Def}
 use Rattle.mc_flow.specs.declared.graph.Flow.{Flow}
 use Rattle.mc_c_syntax.specs.Ast.Trees.{UnitTree}
 use Rattle.mc_c_types.specs.Tables.{struct_infos}
-use Rattle.mc_semantics.specs.Steps.{Step, program_of, start}
 use Rattle.mc_lower_spec.specs.Graphs.{Graph}
 use Rattle.mc_state.specs.Known.{Test, Tells}
 use Rattle.mc_kernel.specs.Branches.{Path}
@@ -20,7 +17,7 @@ use Rattle.mc_exact.specs.Scripts.{malloc_lines}
 use Rattle.mc_exact.specs.Tracks.{IsExactTrack}
 use Rattle.mc_run.specs.Interpret.Faults.{FaultsAreAnswered}
 use Rattle.mc_real.specs.Marked.{MarkedAlarmsAreReal}
-use Rattle.mc_real.specs.Real.{ExactAlarmsAreReached, IsRealGap}
+use Rattle.mc_real.specs.Real.{ExactAlarmsAreReached, FaultsInRun, IsRealGap}
 use Rattle.mc_real.specs.Scripts.{MallocScriptsAreTaken}
 
 -- something tells what is known at the end of an exact branch
@@ -38,17 +35,16 @@ pub marked_alarms : JudgesAreThere → ExactStatesAreWellMade → ExactAlarmsAre
 marked_alarms judges made reached taken interpreted entry unit defs g b answers is mark =
     let k = known judges made g.flow defs b mark.picks is.valid mark.track in
     let at : IsRealGap g.flow defs b mark.picks k.0 = record { exact = mark.track; known = k.1; gap = mark.gap; lacks = mark.unmet; no_shape = λ pred n e. mark.other (pred, n, e) } in
-    let run = reached unit entry defs g b mark.picks k.0 is at in
-    let there = subst (λ (l : List ℕ). Reaches (Step (program_of unit defs)) run.2 (start (program_of unit defs) is.begins) (map malloc l) (fault run.1 run.0.place)) (sym (mark.answers_are k.0 k.1)) run.5 in
-    let few = run.4 in
+    let run = subst (λ (l : List ℕ). FaultsInRun unit entry defs g.flow b.point l) (sym (mark.answers_are k.0 k.1)) (reached unit entry defs g b mark.picks k.0 is at) in
+    let soon = run.6 in
     record {
-      point = run.0;
-      is_its = run.3;
-      kind = run.1;
-      f = is.begins;
-      called = is.called;
-      steps = run.2;
-      faults = there;
-      answered = λ fuel ending enough runs. interpreted unit entry defs is.begins answers (malloc_lines answers) run.2 fuel run.1 run.0.place ending is.typed is.called there (omega arith)
+      point = run.1;
+      is_its = run.5;
+      kind = run.2;
+      f = run.0;
+      called = run.4;
+      steps = run.3;
+      faults = run.7;
+      answered = λ fuel ending enough runs. interpreted unit entry defs run.0 answers (malloc_lines answers) run.3 fuel run.2 run.1.place ending is.typed run.4 run.7 (omega arith)
       (taken (struct_infos unit) answers (all_small answers mark.small)) runs;
     }
