@@ -42,11 +42,11 @@ use Rattle.mc_exact.proofs.Whole.{branch_good}
 
 least_small : (know : Test) (n : NodeId) (m k : ℕ) → least_from know n m k ≤ m + k
 least_small know n m zero = omega arith
-least_small know n m (suc k) = by (equal know n (record { 0 = m }))
+least_small know n m (suc k) = by (least_small know n (suc m) k) (equal know n (record { 0 = m }))
   where
-    by : (b : Bool) → (if b then m else least_from know n (suc m) k) ≤ m + suc k
-    by true = omega arith
-    by false = (let le = least_small know n (suc m) k in omega arith)
+    by : least_from know n (suc m) k ≤ suc m + k → (b : Bool) → (if b then m else least_from know n (suc m) k) ≤ m + suc k
+    by le true = omega arith
+    by le false = omega arith
 
 module _ (flow : Flow) (know : Test) (s : State) (few : s.next ≤ 30001) (up : NodesAscend 1 s.kinds s.next) where
   node_small : (n : NodeId) → HasKind s.kinds Ptr n → n.0 ≤ 30000

@@ -23,11 +23,11 @@ use Rattle.mc_follow.specs.Alarms.Tracks.{come, own_calls, own_calls_in, rules_o
 
 places_are : (pred : PredId) (place : ℕ) (calls : List Call) → length (own_places pred place calls) ≡ own_calls pred calls
 places_are pred place [] = refl
-places_are pred place (call ∷ calls) = by (call.pred.0 == pred.0)
+places_are pred place (call ∷ calls) = by (places_are pred (suc place) calls) (call.pred.0 == pred.0)
   where
-    by : (b : Bool) → length (if b then place ∷ own_places pred (suc place) calls else own_places pred (suc place) calls) ≡ (if b then suc (own_calls pred calls) else own_calls pred calls)
-    by true = ap suc (places_are pred (suc place) calls)
-    by false = places_are pred (suc place) calls
+    by : length (own_places pred (suc place) calls) ≡ own_calls pred calls → (b : Bool) → length (if b then place ∷ own_places pred (suc place) calls else own_places pred (suc place) calls) ≡ (if b then suc (own_calls pred calls) else own_calls pred calls)
+    by more true = ap suc more
+    by more false = more
 
 -- a state for each call of the predicate
 opened_are : (pred : PredId) (made : Rule → ℕ → State) (rules : List Rule)

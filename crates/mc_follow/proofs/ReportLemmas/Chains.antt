@@ -1,7 +1,7 @@
 -- Chains that are read for their reports.
-use Rattle.std.proofs.Common.{◌≡◌, ◌≢◌, ◌++◌, ◌∷◌, ◌∙◌, ◌+◌, ◌-◌, ◌<◌, ◌≤◌, ℕ, List, [], Bool, true, false, Option, Some, None, refl, sym, ap, subst, length, drop, take, get_or, append_assoc, length-drop, arith}
+use Rattle.std.proofs.Common.{◌≡◌, ◌≢◌, ◌++◌, ◌∷◌, ◌∙◌, ◌+◌, ◌-◌, ◌<◌, ◌≤◌, ℕ, List, [], Bool, true, false, Option, Some, None, map, refl, sym, ap, subst, length, drop, take, get_or, append_assoc, length-drop, arith}
 use Rattle.std.specs.Prelude.{Err, IfOk, IfSome, Ok, Result}
-use Rattle.std.proofs.lemmas.List.{append-nil, take_all}
+use Rattle.std.proofs.lemmas.List.{append-nil, length-map, map-append, take_all}
 use Rattle.mc_lines.specs.declared.cert.line.Line.{Line}
 use Rattle.mc_lines.specs.declared.cert.line.Line.TheVariants as line
 use Rattle.mc_flow.specs.declared.defs.rules.Def.{Def}
@@ -30,6 +30,7 @@ use Rattle.mc_document.proofs.CertifiedLemmas.Reading.{none_behind, rest_at}
 use Rattle.mc_document.proofs.PlacesLemmas.{placed_more, placed_there}
 use Rattle.mc_follow.specs.declared.report.chains.ChainReport.{ChainReport}
 use Rattle.mc_follow.specs.declared.report.chains.Draft.{Draft}
+use Rattle.mc_exact.specs.Marks.{Alarm, unmarked}
 use Rattle.mc_follow.specs.Alarms.Laws.{DocumentsAreFollowed}
 use Rattle.mc_follow.specs.Report.Chains.{AddsAlarm, IsDraft, IsNoChain, IsReportOf}
 use Rattle.mc_follow.specs.Report.Heads.{AreWellFormed, AreWritten, head_in, heads_of}
@@ -92,6 +93,13 @@ module _ (flow : Flow) (defs : List Def) where
   other_adds p line.C1 text other none = absurd (other refl)
   other_adds p l text other none = none
 
+-- the line of a stuck branch more after those of others, none of them marked
+unmarked_more : (flow : Flow) (defs : List Def) (stuck : List Path) (b : Path) (text line : Text) → AreAlarmLines flow defs (map unmarked stuck) text
+    → IsAlarmLine flow defs b.point b.state line → AreAlarmLines flow defs (map unmarked (stuck ++ b ∷ [])) (text ++ line)
+unmarked_more flow defs stuck b text line own is =
+    subst (λ (as' : List Alarm). AreAlarmLines flow defs as' (text ++ line)) (sym (map-append unmarked stuck (b ∷ [])))
+    (subst (λ (l : Text). AreAlarmLines flow defs (map unmarked stuck ++ unmarked b ∷ []) (text ++ l)) (append-nil line) (alarm_more flow defs (map unmarked stuck) (unmarked b) text line own is))
+
 module _ (laws : DocumentsAreFollowed) (flow : Flow) (defs : List Def) (valid : IsValid flow defs) where
   -- ---- one line more
 
@@ -143,13 +151,13 @@ module _ (laws : DocumentsAreFollowed) (flow : Flow) (defs : List Def) (valid : 
     -- what it adds to the lines of the stuck branches
     record IsTold (last next : Reading) (text alarm : Text) : Type 0 where
       pub form : next.form ≡ last.form
-      pub alarms : AreAlarmLines flow defs next.stuck (text ++ alarm)
+      pub alarms : AreAlarmLines flow defs (map unmarked next.stuck) (text ++ alarm)
 
-    told_still : (last next : Reading) (text alarm : Text) → IsStill last next → alarm ≡ [] → AreAlarmLines flow defs last.stuck text → IsTold last next text alarm
+    told_still : (last next : Reading) (text alarm : Text) → IsStill last next → alarm ≡ [] → AreAlarmLines flow defs (map unmarked last.stuck) text → IsTold last next text alarm
     told_still last next text alarm still none own = record {
       form = still.form;
-      alarms = subst (λ (t : Text). AreAlarmLines flow defs next.stuck t) (sym (ap (λ (t : Text). text ++ t) none ∙ append-nil text))
-          (subst (λ (bs : List Path). AreAlarmLines flow defs bs text) (sym still.stuck) own);
+      alarms = subst (λ (t : Text). AreAlarmLines flow defs (map unmarked next.stuck) t) (sym (ap (λ (t : Text). text ++ t) none ∙ append-nil text))
+          (subst (λ (bs : List Path). AreAlarmLines flow defs (map unmarked bs) text) (sym still.stuck) own);
     }
 
     module _ (last next : Reading) (old : Position) (text alarm : Text) (stands : Stands k well last old) (of_flow : old.flow ≡ flow) (of_defs : old.defs ≡ defs)
@@ -160,7 +168,7 @@ module _ (laws : DocumentsAreFollowed) (flow : Flow) (defs : List Def) (valid : 
       begun_here : (l : Line) → is_rule l ≡ true → reading_line k well flow defs l last ≡ Ok next → old.stage ≡ ruling
       begun_here l rule e = sym (ap (λ (q : Position). q.stage) stands.here) ∙ rule_begun l last next rule chain_here e
 
-      told_by : (l : Line) → reading_line k well flow defs l last ≡ Ok next → AddsAlarm flow defs old l alarm → AreAlarmLines flow defs last.stuck text
+      told_by : (l : Line) → reading_line k well flow defs l last ≡ Ok next → AddsAlarm flow defs old l alarm → AreAlarmLines flow defs (map unmarked last.stuck) text
           → IsTold last next text alarm
       told_by (line.Header version form) e adds own = told_still last next text alarm (stays_still (line.Header version form) last next refl chain_here e) adds own
       told_by (line.Cut p) e adds own = told_still last next text alarm (stays_still (line.Cut p) last next refl chain_here e) adds own
@@ -172,8 +180,8 @@ module _ (laws : DocumentsAreFollowed) (flow : Flow) (defs : List Def) (valid : 
           let stuck : IsStuck flow defs (setting_at old) i.first i.paths = i.instance in
           record {
             form = i.same_form;
-            alarms = subst (λ (bs : List Path). AreAlarmLines flow defs bs (text ++ alarm)) (sym i.stuck_are)
-                (alarm_more flow defs last.stuck i.first text alarm own (adds i.first i.others stuck.gap i.open_are stuck.unmet));
+            alarms = subst (λ (bs : List Path). AreAlarmLines flow defs (map unmarked bs) (text ++ alarm)) (sym i.stuck_are)
+                (unmarked_more flow defs last.stuck i.first text alarm own (adds i.first i.others stuck.gap i.open_are stuck.unmet));
           }
       told_by l e adds own =
           let i = ruled_by laws flow defs valid k well judge l last old next refl stands of_flow of_defs (begun_here l refl e) e in
@@ -240,7 +248,7 @@ module _ (laws : DocumentsAreFollowed) (flow : Flow) (defs : List Def) (valid : 
               last = m.next;
               read = m.read;
               stands = m.stands;
-              alarms = subst (λ (text : Text). AreAlarmLines flow defs m.next.stuck text) (sym alarms) t.alarms;
+              alarms = subst (λ (text : Text). AreAlarmLines flow defs (map unmarked m.next.stuck) text) (sym alarms) t.alarms;
             };
         in_place = λ k well judge.
             let r = i.reads k well judge in
@@ -310,7 +318,7 @@ module _ (laws : DocumentsAreFollowed) (flow : Flow) (defs : List Def) (valid : 
           subst (λ (hs : List WrittenHead). AreHeadLines flow defs [] hs d.heads.items) heads i.written.lines_are,
           r.alarms,
           text ∙ append_assoc d.heads.items d.alarms.items (count_line report.count)
-              ∙ ap (λ (n : ℕ). d.heads.items ++ (d.alarms.items ++ count_line n)) counted,
+              ∙ ap (λ (n : ℕ). d.heads.items ++ (d.alarms.items ++ count_line n)) (counted ∙ sym (length-map r.last.stuck unmarked)),
         );
         counted = counted;
       }

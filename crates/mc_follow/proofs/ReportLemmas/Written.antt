@@ -15,6 +15,7 @@ use Rattle.mc_kernel.specs.Branches.{Path, Setting, states_at}
 use Rattle.mc_kernel.specs.Certificates.{WrittenHead, IsValidCertificate, AreHeads, states_of}
 use Rattle.mc_kernel.specs.Instances.{IsInstance, Reads}
 use Rattle.mc_kernel.specs.Reading.Documents.{IsShortChain}
+use Rattle.mc_exact.specs.Marks.{Alarm}
 use Rattle.mc_follow.specs.Report.Heads.{AreWellFormed, AreWritten, head_in, heads_of, number_at}
 use Rattle.mc_follow.specs.Report.Report.{AreAlarmLines, AreHeadLines, IsCertificateReport, IsChainReport, IsHeadLine, count_line, heads_at}
 
@@ -87,10 +88,10 @@ chain_heads flow defs lines stuck c =
     ap heads_of c.spelled ∙ heads_in c.cuts c.heads (line.Pass ∷ (c.rules ++ line.End ∷ [])) (no_more flow defs _ c.rules _ stuck c.pass.reads)
 
 -- the report of a chain without heads
-pub headless_report : (flow : Flow) (defs : List Def) (lines : List Line) (stuck : List Path) (c : IsShortChain flow defs lines stuck) (alarms text : Text)
-    → heads_of lines ≡ [] → AreAlarmLines flow defs stuck alarms → text ≡ alarms ++ count_line (length stuck) → IsChainReport flow defs c.heads stuck text
-headless_report flow defs lines stuck c alarms text none own spelled =
-    ([], alarms, subst (λ (hs : List WrittenHead). AreHeadLines flow defs [] hs []) (sym none ∙ chain_heads flow defs lines stuck c) refl, own, spelled)
+pub headless_report : (flow : Flow) (defs : List Def) (lines : List Line) (stuck : List Path) (alarms : List Alarm) (c : IsShortChain flow defs lines stuck) (told text : Text)
+    → heads_of lines ≡ [] → AreAlarmLines flow defs alarms told → text ≡ told ++ count_line (length alarms) → IsChainReport flow defs c.heads alarms text
+headless_report flow defs lines stuck alarms c told text none own spelled =
+    ([], told, subst (λ (hs : List WrittenHead). AreHeadLines flow defs [] hs []) (sym none ∙ chain_heads flow defs lines stuck c) refl, own, spelled)
 
 -- and their states are well formed
 formed : (flow : Flow) (defs : List Def) (cuts : List PointId) (heads : List WrittenHead) → AreHeads flow defs cuts heads → AreWellFormed flow defs heads
