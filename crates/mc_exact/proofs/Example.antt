@@ -188,11 +188,11 @@ module _ (law : TrueIsNotFalse) where
       let root = entry_path freed_flow in
       let nulled = path_to (ex.at 1) null_state None in
       let full = path_to (ex.at 1) made_state None in
-      let first = ruled (line.Step step.S10) (root, Some []) (nulled ∷ full ∷ []) begun (λ plain. refl) (may_step root refl refl, _, allocates, refl) in
-      let second = ruled (line.Step step.S11) (nulled, Some (None ∷ [])) (null_track.0 ∷ []) first (λ plain. refl) (may_step nulled refl refl, _, frees_null, refl) in
+      let first = ruled (line.Step step.S10) (root, Some []) (nulled ∷ full ∷ []) begun (λ plain. refl) (may_step root refl refl, (_, allocates, refl)) in
+      let second = ruled (line.Step step.S11) (nulled, Some (None ∷ [])) (null_track.0 ∷ []) first (λ plain. refl) (may_step nulled refl refl, (_, frees_null, refl)) in
       let third = stuck (null_track.0, Some (None ∷ [])) [] (NoBlock null) (Some (0 ∷ [])) second (stuck_at null_track.0 (NoBlock null) refl refl null_is_unmet)
       null_is_unmet (block_gap null, λ know tells. refl) in
-      let fourth = ruled (line.Step step.S12) (full, Some (Some (node 1) ∷ [])) (freed_track.0 ∷ []) third (λ plain. refl) (may_step full refl refl, _, frees_cell, refl) in
+      let fourth = ruled (line.Step step.S12) (full, Some (Some (node 1) ∷ [])) (freed_track.0 ∷ []) third (λ plain. refl) (may_step full refl refl, (_, frees_cell, refl)) in
       let fifth = stuck (freed_track.0, Some (Some (node 1) ∷ [])) [] (NoBlock (node 1)) (Some (1 ∷ [])) fourth (stuck_at freed_track.0 (NoBlock (node 1)) refl refl freed_is_unmet)
       freed_is_unmet (block_gap (node 1), one_is_least truth) in
       record { rules = line.Step step.S10 ∷ line.Step step.S11 ∷ line.C1 ∷ line.Step step.S12 ∷ line.C1 ∷ []; spelled = refl; ends = fifth }

@@ -33,6 +33,7 @@ fn proved(alloc: Global, flow: &Flow, defs: &Defs, lines: &[Line]) -> Result<Fin
 
 // The document of a chain that has alarms.
 fn alarming(alloc: Global, flow: &Flow, defs: &Defs, chain: Document) -> Result<Findings, NoMemory>
+    requires no_loops { flow.now.heads ≡ [] }
     requires chain { IsWhole flow.now defs.now chain }
     requires some { 0 < chain.count }
     ensures { IfOk result (λ f. HasAlarms flow.now defs.now f chain.count) }
@@ -52,7 +53,8 @@ fn reporting(
     lines: &[Line],
     report: ChainReport,
 ) -> Result<Findings, NoMemory>
-    requires { IsReported flow.now defs.now lines.now report }
+    requires loops { flow.now.heads ≡ [] → ⊥ }
+    requires reported { IsReported flow.now defs.now lines.now report }
     ensures { IfOk result (λ f. HasAlarms flow.now defs.now f report.count) }
 {
     let document = document(alloc, lines)?;
@@ -142,7 +144,8 @@ fn answered(
     defs: &Defs,
     proposed: Proposed,
 ) -> Result<Analysis, NoMemory>
-    requires { IsProposed flow.now defs.now proposed }
+    requires loops { flow.now.heads ≡ [] → ⊥ }
+    requires proposed { IsProposed flow.now defs.now proposed }
     ensures { IfOk result (IsAnalysis flow.now defs.now) }
 {
     match proposed {

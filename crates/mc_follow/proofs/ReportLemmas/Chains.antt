@@ -80,14 +80,14 @@ on_some P Q (Err e) go p = p
 -- ---- the line of the first branch
 
 module _ (flow : Flow) (defs : List Def) where
-  pub alarm_told : (b : Path) (gap : Gap) (old new : Text) (stuck : Bool) → old ≡ []
-      → (stuck ≡ true → (own : Text) × IsAlarmLine flow defs b.point b.state own × (new ≡ old ++ own))
-      → (stuck ≡ false → (new ≡ old) × ((gap : Gap) → IsUnmet flow defs b.point b.state gap → ⊥))
+  pub alarm_told : (b : Path) (gap : Gap) (old new : Text) (found : Option Gap) → old ≡ []
+      → IfSome found (λ other. IsUnmet flow defs b.point b.state other × ((own : Text) × IsAlarmLine flow defs b.point b.state own × (new ≡ old ++ own)))
+      → (found ≡ None → (new ≡ old) × ((gap : Gap) → IsUnmet flow defs b.point b.state gap → ⊥))
       → IsUnmet flow defs b.point b.state gap → IsAlarmLine flow defs b.point b.state new
-  alarm_told b gap old new true none lacks met unmet =
-      let own = lacks refl in
+  alarm_told b gap old new (Some other) none lacks met unmet =
+      let own = lacks.1 in
       subst (λ (t : Text). IsAlarmLine flow defs b.point b.state t) (sym (own.2 ∙ ap (λ (t : Text). t ++ own.0) none)) own.1
-  alarm_told b gap old new false none lacks met unmet = absurd ((met refl).1 gap unmet)
+  alarm_told b gap old new None none lacks met unmet = absurd ((met refl).1 gap unmet)
 
   pub other_adds : (p : Position) (l : Line) (text : Text) → l ≢ line.C1 → text ≡ [] → AddsAlarm flow defs p l text
   other_adds p line.C1 text other none = absurd (other refl)

@@ -123,7 +123,7 @@ impl<'f> Walk<'f> {
             return Ok(false);
         };
         let mark = mark(self.alloc, &branch.state, self.tracks.first(), gap)?;
-        push_real(self.alloc, &mut line, mark.as_ref())?;
+        push_real(self.alloc, &mut line, &mark)?;
         let ended = sum(self.ended, 1)?;
         match self.proof.apply(&Line::C1) {
             Ok(()) => {

@@ -13,10 +13,14 @@ returns c =
     record {
       lines = chain.lines.items;
       stuck = c.requires.chain.stuck;
+      alarms = c.requires.chain.alarms;
+      stuck_are = c.requires.chain.stuck_are;
       spelled = spelled chain.lines.items text written;
       chain = c.requires.chain.chain;
       within = c.requires.chain.within;
       places = c.requires.chain.places;
+      marked = λ none. c.requires.chain.marked;
+      not_marked = λ loops. absurd (loops c.requires.no_loops);
       report = c.requires.chain.report;
       counted = c.requires.chain.counted;
       some = c.requires.some;

@@ -1,15 +1,21 @@
-use Rattle.mc_find.proofs.AnalysisLemmas.Spelled.{spelled}
+use Rattle.std.proofs.Common.{map, refl}
+use Rattle.mc_exact.specs.Marks.{unmarked}
+use Rattle.mc_find.proofs.AnalysisLemmas.Spelled.{own_branches, spelled}
 use Rattle.mc_find.proofs.analysis.finding.reporting.Goals as goal
 
 pub returns : goal.returns
 returns c = record {
   lines = c.args.lines.now;
-  stuck = c.requires.stuck;
+  stuck = c.requires.reported.stuck;
+  alarms = map unmarked c.requires.reported.stuck;
+  stuck_are = own_branches c.requires.reported.stuck;
   spelled = spelled c.args.lines.now c.in_ok-document.document.items c.in_ok-document.ensures;
-  chain = c.requires.chain;
-  within = c.requires.within;
-  places = c.requires.places;
-  report = c.requires.report;
-  counted = c.requires.counted;
-  some = c.requires.some;
+  chain = c.requires.reported.chain;
+  within = c.requires.reported.within;
+  places = c.requires.reported.places;
+  marked = λ none. absurd (c.requires.loops none);
+  not_marked = λ loops. refl;
+  report = c.requires.reported.report;
+  counted = c.requires.reported.counted;
+  some = c.requires.reported.some;
 }

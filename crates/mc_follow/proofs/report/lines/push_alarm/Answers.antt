@@ -8,10 +8,11 @@ pub returns-in_default-clause-met : goal.returns-in_default-clause-met
 returns-in_default-clause-met c = λ e. (refl, λ gap unmet. c.in_default.not-Some gap ((c.in_ok-gap.ensures gap).1 unmet))
 
 pub returns-clause-stuck : goal.returns-clause-stuck
-returns-clause-stuck c = λ e.
+returns-clause-stuck c =
     let flow = c.args.flow.now in
     let defs = c.args.defs.now in
     let line : Text = alarm_line flow defs c.args.point c.in-Some.gap c.in_ok-text.text in (
+      (c.in_ok-gap.ensures c.in-Some.gap).0 c.in-Some.is,
       line,
       record {
         gap = c.in-Some.gap;

@@ -19,9 +19,10 @@ returns-in-Ok-clause-follows c =
     let lines = c.in_ok-push-in-Ok.ensures.items in
     let count = c.in_ok-ended.ensures ∙ ap (λ (n : ℕ). old.ended + n) c.ending.ensures in (
       λ few.
-          same_followed flow defs _ c.push.new.self.items c.apply.new.self old.text.items old.text.items c.in_ok-ended.ended lines refl
+          same_followed flow defs _ c.push.new.self.items c.apply.new.self old.text.items old.text.items c.in_ok-ended.ended c.turn.new.self lines refl
           (goes_further laws flow defs valid c.branches_are_followed.ensures old.lines.items c.args.line old.proof c.apply.new.self old.text.items
-          old.ended old.tracks c.in_ok-ended.ended goes c.requires.may c.requires.followed c.in-Ok.ensures.applies count few),
+          old.ended old.tracks c.in_ok-ended.ended goes c.requires.may c.requires.followed c.in-Ok.ensures.applies count few
+          c.in_ok-coming.coming c.in_ok-coming.ensures c.turn.new.self c.in_ok-turn-in-Ok.ensures),
       λ many.
           subst (IsCrowded flow defs) (sym lines)
           (crowds laws flow defs valid old.lines.items c.args.line old.proof c.apply.new.self old.text.items

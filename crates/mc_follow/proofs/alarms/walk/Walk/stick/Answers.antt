@@ -21,7 +21,9 @@ returns-in-Ok-clause-follows c =
     let flow = c.args.flow.now in
     let defs = c.args.defs.now in
     let old = c.args.self.now in
-    let own = c.in_ok-push_alarm.ensures.stuck c.if-not-branch.false in
+    let gap = c.in-Some-found.gap in
+    let own = c.in-Some-found.ensures in
+    let mark = option_map (λ (list : Vec ℕ). list.items) c.in_ok-mark.mark in
     let current : Some (path c.in-Some.branch.now) ≡ option_map (λ (b : Path × List Path). b.0) (first_branch old.proof.branches) =
     sym (ap (λ (b : Option (Bor Branch)). option_map (λ (b : Bor Branch). path b.now) b) c.in-Some.is) ∙ c.current.ensures in
     let laws = c.documents_are_followed.ensures in
