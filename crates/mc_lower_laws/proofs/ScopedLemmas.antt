@@ -6,4 +6,3 @@ pub mod Scoping
 pub mod Wholes
 pub mod Trees
 pub mod FlowFaults
-pub mod NearFaults

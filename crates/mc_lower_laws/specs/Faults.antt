@@ -1,5 +1,5 @@
 -- Faults of a program and of its flow graph.
-use Rattle.std.specs.Prelude.{◌*◌, ℕ, List, length}
+use Rattle.std.specs.Prelude.{ℕ, List}
 use Rattle.mc_base.specs.declared.plain.FaultKind.{FaultKind}
 use Rattle.mc_base.specs.declared.text.place.Place.{Place}
 use Rattle.mc_c_syntax.specs.Ast.Trees.{FunctionTree}
@@ -24,11 +24,3 @@ FlowFaultsAreIn graph defs program entry =
     (n : ℕ) (choices : List Choice) (kind : FaultKind) (place : Place)
     → Reaches (flow.Step graph defs) n (flow.start graph) choices (fault kind place)
     → (m : ℕ) × Reaches (Step program) m (start program entry) choices (fault kind place)
-
--- every fault of the flow graph is one of the program, to which the run with the same choices comes within two steps for each
--- point
-abbrev pub FlowFaultsAreNear : Flow → List Def → Program → FunctionTree → Type 0
-FlowFaultsAreNear graph defs program entry =
-    (n : ℕ) (choices : List Choice) (kind : FaultKind) (place : Place)
-    → Reaches (flow.Step graph defs) n (flow.start graph) choices (fault kind place)
-    → Reaches (Step program) (2 * length graph.points) (start program entry) choices (fault kind place)

@@ -36,5 +36,3 @@ pub mod Beginning
 pub mod Declaring
 pub mod Scoped
 pub mod LengthLemmas
-pub mod Lasting
-pub mod Bounding

@@ -1,5 +1,5 @@
 -- What runs of a program and of its flow graph have in common.
-use Rattle.std.specs.Prelude.{◌≡◌, ◌↔◌, ◌*◌, ℕ, List, Option, Some, None, length, slice_get}
+use Rattle.std.specs.Prelude.{◌≡◌, ◌↔◌, ℕ, List, Option, Some, None, slice_get}
 use Rattle.mc_base.specs.declared.plain.FaultKind.{FaultKind}
 use Rattle.mc_base.specs.declared.text.place.Place.{Place}
 use Rattle.mc_flow.specs.Runs.{Final, Outcome, next, last, ended, stopped, fault, Reaches}
@@ -43,10 +43,3 @@ FaultsMatch g entry =
     (n : ℕ) (choices : List Choice) (kind : FaultKind) (place : Place)
     → Reaches (resolved.Step g.program) n (resolved.start entry) choices (fault kind place)
     → ComesTo (flow.Step g.flow g.program.defs) (flow.start g.flow) choices (fault kind place)
-
--- each run of the program that comes to an end does so within two steps for each point of the flow graph
-abbrev pub RunsAreShort : Graph → Function → Type 0
-RunsAreShort g entry =
-    (n : ℕ) (choices : List Choice) (final : Final)
-    → Reaches (resolved.Step g.program) n (resolved.start entry) choices final
-    → Reaches (resolved.Step g.program) (2 * length g.flow.points) (resolved.start entry) choices final

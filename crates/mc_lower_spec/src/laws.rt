@@ -4,9 +4,9 @@ ghost use Rattle.mc_lower_spec.specs.Examples.{fields_graph, fields_main, for_gr
 ghost use Rattle.mc_lower_spec.specs.Examples.{values_graph, values_main, while_graph, while_main, whole_graph};
 ghost use Rattle.mc_lower_spec.specs.Graphs.{Graph};
 ghost use Rattle.mc_lower_spec.specs.Lowering.{IsLowering, Makes};
-ghost use Rattle.mc_lower_spec.specs.Runs.{FaultsMatch, RunsAreShort, RunsMatch};
+ghost use Rattle.mc_lower_spec.specs.Runs.{FaultsMatch, RunsMatch};
 ghost use Rattle.mc_lower_spec.specs.Scopes.{AreScoped};
-ghost use Rattle.std.specs.Prelude.{◌≡◌, ℕ, []};
+ghost use Rattle.std.specs.Prelude.{ℕ};
 ghost use Rattle.mc_semantics.specs.Resolved.Programs.{Function};
 
 /// The flow graphs of small programs, which were worked out by hand: expressions and assignments, fields, nested conditions, each
@@ -44,11 +44,4 @@ pub fn runs_match()
 pub fn faults_match()
     ensures { (g : Graph) (entry : Function) (out count : ℕ) → IsLowering g entry out count → AreScoped g.program
         → FaultsMatch g entry }
-{}
-
-/// Where the flow graph has no loops, each run of the program that comes to an end does so within two steps for each point of the
-/// flow graph: a call and the `return` in it have the point behind the call's body, and each other step has a point of its own.
-pub fn runs_are_short()
-    ensures { (g : Graph) (entry : Function) (out count : ℕ) → IsLowering g entry out count → g.flow.heads ≡ []
-        → RunsAreShort g entry }
 {}

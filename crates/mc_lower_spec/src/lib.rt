@@ -6,4 +6,4 @@
 mod laws;
 pub mod length;
 
-pub use laws::{faults_match, runs_are_short, runs_match, small_programs_are_lowered, small_programs_are_scoped};
+pub use laws::{faults_match, runs_match, small_programs_are_lowered, small_programs_are_scoped};

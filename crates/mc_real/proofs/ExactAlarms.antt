@@ -19,11 +19,11 @@ use Rattle.mc_semantics.specs.Steps.{program_of}
 use Rattle.mc_lower_spec.specs.Graphs.{Graph}
 use Rattle.mc_lower_spec.specs.Lowering.{IsLowering}
 use Rattle.mc_lower_laws.specs.Closed.{IsClosed as IsClosedProgram, IsClosedCode, IsClosedFlow}
-use Rattle.mc_lower_laws.specs.Faults.{FlowFaultsAreNear}
 use Rattle.mc_state.specs.Known.{Test}
 use Rattle.mc_exact.specs.Real.{answered, scripted, AlarmsAreReal, IsShort}
 use Rattle.mc_exact.specs.Tracks.{IsClosed, AsksMallocAlone, StuckLacks}
 use Rattle.mc_run.specs.Interpret.Faults.{FaultsAreAnswered}
+use Rattle.mc_real.specs.Near.{FlowFaultsAreNear}
 use Rattle.mc_real.specs.Real.{ClosedAlarmsAreReal, ExactAlarmsAreReached, ExactAlarmsAreReal, IsRealGap, IsShortProgram}
 
 -- what the instructions of closed programs ask for is said in two crates alike
@@ -53,12 +53,15 @@ scripted_all know (pick ∷ picks) = ap (λ (l : List Choice). scripted know pic
 
 -- the laws of lower crates
 abbrev pub ClosedLowered : Type 0
-ClosedLowered = (g : Graph) (entry : Function) (out count : ℕ) → IsClosedProgram g.program → IsLowering g entry out count → IsClosedFlow g.flow
+ClosedLowered = (g : Graph) (entry : Function) (out count : ℕ) → IsClosedProgram g.program → IsLowering g entry out count
+    → IsClosedFlow g.flow
 
 abbrev pub FaultsAreTheirs : Type 0
 FaultsAreTheirs =
-    (unit : UnitTree) (defs : List Def) (entry : List ℕ) (f : FunctionTree) (g : Graph) (start : Function) (out count : ℕ) → IsWellTyped unit entry → AreDistinct (declared_places unit)
-    → called_function (tables_of unit) entry ≡ Some f → g.program ≡ resolved_program (tables_of unit) defs entry → IsLowering g start out count → g.flow.heads ≡ []
+    (unit : UnitTree) (defs : List Def) (entry : List ℕ) (f : FunctionTree) (g : Graph) (start : Function) (out count : ℕ)
+    → IsWellTyped unit entry → AreDistinct (declared_places unit)
+    → called_function (tables_of unit) entry ≡ Some f → g.program ≡ resolved_program (tables_of unit) defs entry
+    → IsLowering g start out count → g.flow.heads ≡ []
     → FlowFaultsAreNear g.flow defs (program_of unit defs) f
 
 -- the fault of the flow graph is one of the program, and is near
@@ -66,7 +69,9 @@ pub exact_reached : AlarmsAreReal → FaultsAreTheirs → ExactAlarmsAreReached
 exact_reached real theirs unit entry defs g b picks know is at =
     let short : IsShort g.flow = record { no_loops = is.no_loops; few = is.few } in
     let f = real g.flow defs b.point b.state picks know at.gap is.valid short at.exact.1 at.known at.lacks at.no_shape in
-    let run = theirs unit defs entry is.begins g is.function is.out is.count is.typed is.distinct is.called is.resolved is.lowered is.no_loops f.2 (map (scripted know) picks) f.1 f.0.place f.5 in
+    let run =
+    theirs unit defs entry is.begins g is.function is.out is.count is.typed is.distinct is.called is.resolved is.lowered
+    is.no_loops f.2 (map (scripted know) picks) f.1 f.0.place f.5 in
     let steps : ℕ = 2 * length g.flow.points in
     let soon : steps ≤ 20000 = omega (arith, is.few) in (
       is.begins,
@@ -76,7 +81,8 @@ exact_reached real theirs unit entry defs g b picks know is at =
       is.called,
       f.3,
       soon,
-      subst (λ (l : List Choice). Reaches (named.Step (program_of unit defs)) steps (named.start (program_of unit defs) is.begins) l (fault f.1 f.0.place)) (scripted_all know picks) run,
+      subst (λ (l : List Choice). Reaches (named.Step (program_of unit defs)) steps
+          (named.start (program_of unit defs) is.begins) l (fault f.1 f.0.place)) (scripted_all know picks) run,
     )
 
 -- and is answered on scripts
@@ -88,14 +94,17 @@ exact_alarms reached interpreted unit entry defs g b picks know is at =
       f.3,
       f.5,
       f.6,
-      λ script fuel ending enough takes runs. interpreted unit entry defs f.0 (map (answered know) picks) script f.3 fuel f.2 f.1.place ending is.typed f.4 f.7 enough takes runs,
+      λ script fuel ending enough takes runs. interpreted unit entry defs f.0
+          (map (answered know) picks) script f.3 fuel f.2 f.1.place ending is.typed f.4 f.7 enough takes runs,
     )
 
 -- a stuck branch of a closed program lacks something, and that is no shape
 pub closed_alarms : StuckLacks → ClosedLowered → ExactAlarmsAreReal → ClosedAlarmsAreReal
 closed_alarms lacking closed real unit entry defs g setting b next picks know is exact tells stuck =
     let c = closed g is.function is.out is.count is.closed is.lowered in
-    let asks : AsksMallocAlone g.flow = All-weaker (λ (x : Point). IsClosedCode x.code) (λ (x : Point). IsClosed x.code) (λ x h. closed_code x.code h) g.flow.points c.points in
+    let asks : AsksMallocAlone g.flow =
+    All-weaker (λ (x : Point). IsClosedCode x.code) (λ (x : Point). IsClosed x.code)
+    (λ x h. closed_code x.code h) g.flow.points c.points in
     let lacks = lacking g.flow defs setting b next asks stuck in
     let short : IsShortProgram unit entry defs g =
     record {
@@ -112,5 +121,6 @@ closed_alarms lacking closed real unit entry defs g setting b next picks know is
       valid = is.valid;
       few = is.few;
     } in
-    let gap : IsRealGap g.flow defs b picks know = record { exact = exact; known = tells; gap = lacks.0; lacks = lacks.1; no_shape = lacks.2 } in
+    let gap : IsRealGap g.flow defs b picks know =
+    record { exact = exact; known = tells; gap = lacks.0; lacks = lacks.1; no_shape = lacks.2 } in
     real unit entry defs g b picks know short gap

@@ -78,7 +78,8 @@ abbrev pub FaultsInRun : UnitTree → (entry : List ℕ) → List Def → Flow �
 FaultsInRun unit entry defs flow p answers =
     (begins : FunctionTree) × (point : Point) × (kind : FaultKind) × (steps : ℕ)
     × (called_function (tables_of unit) entry ≡ Some begins) × (slice_get flow.points p.0 ≡ Some point) × (steps ≤ 20000)
-    × Reaches (Step (program_of unit defs)) steps (start (program_of unit defs) begins) (map malloc answers) (fault kind point.place)
+    × Reaches (Step (program_of unit defs)) steps (start (program_of unit defs) begins) (map malloc answers)
+    (fault kind point.place)
 
 -- with 20,000 units of fuel, of which a step takes one, the program comes to a fault at the point, with every script whose lines
 -- mean these answers of malloc

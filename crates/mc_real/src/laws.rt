@@ -1,9 +1,9 @@
 // What holds of the alarms of programs without loops.
 ghost use Rattle.mc_real.specs.Real.{ClosedAlarmsAreReal, ExactAlarmsAreReached, ExactAlarmsAreReal};
 
+use crate::near::flow_faults_are_near;
 use mc_exact::{alarms_are_real, tracks_stay_exact};
 use mc_lower_laws::closed::closed_programs_ask_for_malloc_alone;
-use mc_lower_laws::scoped::flow_faults_are_near;
 use mc_run::interpret::faults_are_answered;
 
 /// Where something other than a shape is lacking on an exact branch of a program without loops, the program's run with the

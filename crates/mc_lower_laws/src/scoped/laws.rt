@@ -2,7 +2,7 @@
 ghost use Rattle.mc_c_syntax.specs.Ast.Trees.{FunctionTree, UnitTree};
 ghost use Rattle.mc_flow.specs.declared.defs.rules.Def.{Def};
 ghost use Rattle.mc_flow.specs.Steps.{IsSafeFlow};
-ghost use Rattle.mc_lower_laws.specs.Faults.{FaultsAreIn, FlowFaultsAreIn, FlowFaultsAreNear};
+ghost use Rattle.mc_lower_laws.specs.Faults.{FaultsAreIn, FlowFaultsAreIn};
 ghost use Rattle.mc_lower_spec.specs.Graphs.{Graph};
 ghost use Rattle.mc_lower_spec.specs.Lowering.{IsLowering};
 ghost use Rattle.mc_lower_spec.specs.Scopes.{AreScoped};
@@ -12,9 +12,9 @@ ghost use Rattle.mc_semantics.specs.Resolved.Programs.{Function};
 ghost use Rattle.mc_semantics.specs.Resolved.Resolving.{resolved_program};
 ghost use Rattle.mc_c_types.specs.Tables.{called_function, tables_of};
 ghost use Rattle.mc_c_types.specs.Typing.{IsWellTyped};
-ghost use Rattle.std.specs.Prelude.{◌≡◌, ℕ, List, [], Some};
+ghost use Rattle.std.specs.Prelude.{◌≡◌, ℕ, List, Some};
 
-use mc_lower_spec::{faults_match, runs_are_short, runs_match};
+use mc_lower_spec::{faults_match, runs_match};
 use mc_semantics::resolved::resolved_programs_run_alike;
 
 /// In a resolved program what is written is in scope, if the program is well typed and declares its variables at
@@ -51,21 +51,6 @@ pub fn flow_faults_are_in_programs()
     // These laws are called for the proof alone.
     resolved_programs_are_scoped();
     runs_match();
-    resolved_programs_run_alike();
-}
-
-/// Where the flow graph has no loops, every fault of it is one of the program, to which the run with the same choices comes within
-/// two steps for each point, if the program is well typed and declares its variables at different places.
-pub fn flow_faults_are_near()
-    ensures { (unit : UnitTree) (defs : List Def) (entry : List ℕ) (f : FunctionTree)
-        (g : Graph) (start : Function) (out count : ℕ) → IsWellTyped unit entry → AreDistinct (declared_places unit)
-        → called_function (tables_of unit) entry ≡ Some f
-        → g.program ≡ resolved_program (tables_of unit) defs entry → IsLowering g start out count → g.flow.heads ≡ []
-        → FlowFaultsAreNear g.flow defs (program_of unit defs) f }
-{
-    // These laws are called for the proof alone: the run to the fault is a short one.
-    flow_faults_are_in_programs();
-    runs_are_short();
     resolved_programs_run_alike();
 }
 

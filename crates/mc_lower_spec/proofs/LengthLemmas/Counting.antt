@@ -55,7 +55,7 @@ pub used : {g : Graph} {j : ℕ} {kind : Kind} {s u : Stage} {v : VarId} → Use
 used (uses_first is) = created is
 used (uses_again is) = record { points = omega arith; variables = omega arith }
 
-pub taken : {g : Graph} {place : Place} {kind : Kind} {operation : Operation} {ts us : List VarId} {s u : Stage} {t : VarId} → Takes g place kind operation ts s t us u → IsEvaluated 1 ts us s u
+taken : {g : Graph} {place : Place} {kind : Kind} {operation : Operation} {ts us : List VarId} {s u : Stage} {t : VarId} → Takes g place kind operation ts s t us u → IsEvaluated 1 ts us s u
 taken (takes {ts = ts} {t = t} uses is) =
     let a = used uses in
     let b = appended is in
