@@ -522,6 +522,11 @@ pub same_followed : (flow : Flow) (defs : List Def) (lines own : List Line) (p :
 same_followed flow defs lines own p text mine ended tracks e g f =
     subst (λ (t : List ℕ). IsFollowed flow defs own p t ended tracks) (sym g) (subst (λ (ls : List Line). IsFollowed flow defs ls p text ended tracks) (sym e) f)
 
+-- and tracks
+pub same_tracks : (flow : Flow) (defs : List Def) (lines : List Line) (p : Position) (text : List ℕ) (ended : ℕ) (tracks own : List (Option Picks)) → own ≡ tracks
+    → IsFollowed flow defs lines p text ended tracks → IsFollowed flow defs lines p text ended own
+same_tracks flow defs lines p text ended tracks own e f = subst (λ (ts : List (Option Picks)). IsFollowed flow defs lines p text ended ts) (sym e) f
+
 -- the same line
 pub same_sure : (flow : Flow) (defs : List Def) (asked : Option Line) (l m : Line) (p : Position) → asked ≡ Some l → asked ≡ Some m → IsSure flow defs l p → IsSure flow defs m p
 same_sure flow defs asked l m p e g sure = subst (λ (n : Line). IsSure flow defs n p) same sure

@@ -112,7 +112,7 @@ module _ (flow : Flow) (defs : List Def) where
 
   module _ (rules : List Line) (branches : List Path) (tracks : List (Option Picks)) (alarms : List Alarm) where
     -- the first open branch, with its track, and the others
-    record IsAtFirstTrack (b : Path) (others : List Path) : Type 0 where
+    pub record IsAtFirstTrack (b : Path) (others : List Path) : Type 0 where
       pub track : Option Picks
       pub rest : List Branch
       pub tracks_are : tracks ≡ track ∷ map (λ (c : Branch). c.1) rest

@@ -30,6 +30,7 @@ impl<'f> Walk<'f> {
         documents_are_followed();
         branches_are_followed();
         let mut proof = Proof::start(alloc, flow, defs, Form::Chain);
+        let tracks = Tracks::entry(alloc)?;
         let mut lines = Vec::new(alloc);
         lines.push(Line::Header(Version::One, Form::Chain))?;
         lines.push(Line::Pass)?;
@@ -37,7 +38,7 @@ impl<'f> Walk<'f> {
             Ok(()) => Ok(Walk {
                 alloc,
                 proof,
-                tracks: Tracks::entry(alloc)?,
+                tracks,
                 lines,
                 text: Vec::new(alloc),
                 ended: 0,
@@ -128,7 +129,7 @@ impl<'f> Walk<'f> {
         match self.proof.apply(&Line::C1) {
             Ok(()) => {
                 self.ended = ended;
-                let _ended = self.tracks.pop();
+                self.tracks.pop();
                 self.lines.push(Line::C1)?;
                 self.text.extend_from_slice(line.as_slice())?;
                 Ok(true)

@@ -13,7 +13,7 @@ returns-clause-stuck c =
     let defs = c.args.defs.now in
     let line : Text = alarm_line flow defs c.args.point c.in-Some.gap c.in_ok-text.text in (
       (c.in_ok-gap.ensures c.in-Some.gap).0 c.in-Some.is,
-      line,
+      (line,
       record {
         gap = c.in-Some.gap;
         unmet = (c.in_ok-gap.ensures c.in-Some.gap).0 c.in-Some.is;
@@ -23,5 +23,5 @@ returns-clause-stuck c =
         spelled = refl;
       },
       c.in_ok-push_alarm_line.ensures
-          ∙ ap (λ (t : Text). c.args.out.now.items ++ alarm_line flow defs c.args.point c.in-Some.gap t) c.as_slice-4.ensures,
+          ∙ ap (λ (t : Text). c.args.out.now.items ++ alarm_line flow defs c.args.point c.in-Some.gap t) c.as_slice-4.ensures),
     )

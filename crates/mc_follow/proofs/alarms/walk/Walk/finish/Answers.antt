@@ -6,8 +6,8 @@ use Rattle.mc_document.specs.Proof.Positions.{Applies}
 use Rattle.mc_follow.proofs.AlarmsLemmas.Followed.{end_is_taken, ends, whole_is}
 use Rattle.mc_follow.proofs.alarms.walk.Walk.finish.Goals as goal
 
-pub returns-in_ok-push_count-in-Ok-finish : goal.returns-in_ok-push_count-in-Ok-finish
-returns-in_ok-push_count-in-Ok-finish c =
+pub returns-in-Ok-finish : goal.returns-in-Ok-finish
+returns-in-Ok-finish c =
     let old = c.args.self in
     whole_is c.documents_are_followed.ensures c.args.flow.now c.args.defs.now old.lines.items old.proof c.apply.new.self old.text.items old.ended old.tracks
     c.in-Ok-finish.complete.alarms _ c.requires.followed c.requires.none_open c.in-Ok.ensures.applies c.in-Ok-finish.ensures.ok.alarms
