@@ -15,7 +15,6 @@ use Rattle.mc_lower_spec.specs.Lowering.{IsLowering}
 use Rattle.mc_lower_laws.specs.Closed.{IsClosed, IsClosedCode, IsClosedFlow}
 use Rattle.mc_kernel.specs.Branches.{Path}
 use Rattle.mc_exact.specs.Marks.{Alarm, ClosedAlarmsAreMarked, IsRightAlarm, MarksAreExact, unmarked}
-use Rattle.mc_exact.specs.Real.{IsShort}
 use Rattle.mc_exact.specs.Tracks.{AsksMallocAlone, IsClosed as IsClosedInstr}
 use Rattle.mc_find.specs.Analysis.Findings.{HasAlarms}
 use Rattle.mc_find.specs.declared.analysis.analysis.Findings.{Findings}

@@ -1,12 +1,10 @@
 -- Alarms that carry answers of malloc are real.
-use Rattle.std.proofs.Common.{◌≡◌, ◌≤◌, ◌<◌, ◌^◌, ℕ, List, [], ◌∷◌, map, sym, subst, arith}
+use Rattle.std.proofs.Common.{◌≤◌, ◌<◌, ◌^◌, ℕ, List, [], ◌∷◌, sym, subst, arith}
 use Rattle.std.specs.List.{AllByRecursion}
 use Rattle.mc_flow.specs.Valid.{IsValid}
 use Rattle.mc_flow.specs.declared.defs.rules.Def.{Def}
 use Rattle.mc_flow.specs.declared.graph.Flow.{Flow}
-use Rattle.mc_c_syntax.specs.Ast.Trees.{UnitTree}
 use Rattle.mc_c_types.specs.Tables.{struct_infos}
-use Rattle.mc_lower_spec.specs.Graphs.{Graph}
 use Rattle.mc_state.specs.Known.{Test, Tells}
 use Rattle.mc_kernel.specs.Branches.{Path}
 use Rattle.mc_kernel.specs.Oracle.Judges.{JudgesAreThere}

@@ -22,7 +22,6 @@ use Rattle.mc_flow.specs.declared.defs.shapes.StructInfo.{StructInfo}
 use Rattle.mc_exact.specs.Scripts.{malloc_line, malloc_lines}
 use Rattle.mc_run_values.specs.declared.script.line.ScriptLine.TheVariants.{Malloc}
 use Rattle.mc_run_values.specs.Script.Lines.{SpellsLine, line_data}
-use Rattle.mc_run_values.specs.Script.Scripts.{IsChoice}
 use Rattle.mc_run_values.specs.Values.Taking.{Takes}
 
 -- the array of an answer of malloc
