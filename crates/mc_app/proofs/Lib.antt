@@ -4,8 +4,10 @@ pub mod Hearing
 pub mod Leaving
 pub mod Printing
 pub mod Safe
+pub mod Real
 pub mod Whys
 pub mod Alike
 pub mod Meaning
 pub mod Telling
+pub mod Deciding
 pub mod WordsLemmas

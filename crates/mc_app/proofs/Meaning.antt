@@ -3,7 +3,7 @@ use Rattle.std.proofs.Common.{◌≡◌, ℕ, List, [], refl}
 use Rattle.mc_c_syntax.specs.Ast.Trees.{UnitTree}
 use Rattle.mc_document.specs.declared.judge.verdict.Verdict.{Verdict}
 use Rattle.mc_document.specs.declared.judge.verdict.Verdict.TheVariants as verdict
-use Rattle.mc_find.specs.Analysis.Findings.{IsAnalysis}
+use Rattle.mc_find.specs.Analysis.Findings.{HasAlarms, IsAnalysis}
 use Rattle.mc_find.specs.declared.analysis.analysis.Analysis.{Analysis}
 use Rattle.mc_find.specs.declared.analysis.analysis.Analysis.TheVariants.{Safe, Alarms, Paths, Unknown}
 use Rattle.mc_find.specs.declared.analysis.analysis.Findings.{Findings}
@@ -17,6 +17,7 @@ use Rattle.mc_app.specs.Blocked.{FaultsComeBy}
 use Rattle.mc_app.specs.Checks as checks
 use Rattle.mc_app.specs.Checks.{IsSafeUnit}
 use Rattle.mc_app.specs.Documents.{AlarmsAreFound}
+use Rattle.mc_app.specs.Real.{AreReal}
 
 module _ (start : List ℕ) (unit : UnitTree) (defs : List Def) (flow : Flow) (comes : (stuck : List Path) → FaultsOnlyStuck flow defs stuck → FaultsComeBy start unit defs flow stuck) where
   pub verdict_means : (document : List ℕ) (v : Verdict) → (v ≡ verdict.Safe → IsSafeUnit start unit defs) → AlarmsAreFound flow defs document v → checks.MeansForRuns start unit defs flow document v
@@ -26,11 +27,11 @@ module _ (start : List ℕ) (unit : UnitTree) (defs : List Def) (flow : Flow) (c
       (chain.0, chain.1, chain.2, comes chain.0 chain.3)
   verdict_means document (verdict.Refused cause) safe found = tt
 
-  pub found_means : LastPassFindsFaults → IsValid flow defs → (found : Analysis) → ((f : Findings) → found ≡ Safe f → IsSafeUnit start unit defs) → (is : IsAnalysis flow defs found)
+  pub found_means : LastPassFindsFaults → IsValid flow defs → ((f : Findings) (count : ℕ) → (alarming : HasAlarms flow defs f count) → AreReal start unit defs flow alarming.alarms) → (found : Analysis) → ((f : Findings) → found ≡ Safe f → IsSafeUnit start unit defs) → (is : IsAnalysis flow defs found)
       → analyses.MeansForRuns start unit defs flow found is
-  found_means faults valid (Safe f) safe is = safe f refl
-  found_means faults valid (Alarms f count) safe is =
+  found_means faults valid real (Safe f) safe is = safe f refl
+  found_means faults valid real (Alarms f count) safe is =
       let chain = is.chain in
-      comes is.stuck (faults flow defs chain.cuts (states_of chain.heads) chain.rules is.stuck valid chain.pass)
-  found_means faults valid (Paths document) safe is = tt
-  found_means faults valid Unknown safe is = tt
+      (comes is.stuck (faults flow defs chain.cuts (states_of chain.heads) chain.rules is.stuck valid chain.pass), real f count is)
+  found_means faults valid real (Paths document) safe is = tt
+  found_means faults valid real Unknown safe is = tt

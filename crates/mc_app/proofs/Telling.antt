@@ -22,6 +22,7 @@ use Rattle.mc_app.specs.Answers.{AsksForSafety, IsWhyWords, sources_of, status_o
 use Rattle.mc_app.specs.Blocked.{FaultsComeBy}
 use Rattle.mc_app.specs.Faults.{fault_status}
 use Rattle.mc_app.specs.Printing.{text_of}
+use Rattle.mc_app.specs.Real.{AreReal}
 use Rattle.mc_app.specs.Statuses.{AlarmsMean, AlarmsTell, IsComplete, IsReady, TellsFaults}
 use Rattle.mc_app.specs.Words.Commands.{analyse_app, check_app, run_app}
 use Rattle.mc_app.specs.Words.Words.{Asks}
@@ -140,11 +141,13 @@ alarms_tell holds words (Analysed (results.Found (analysis.Alarms f count))) old
       (
         found.0,
         alarming.chain.heads,
-        alarming.stuck,
+        alarming.alarms,
         f.report.items,
         alarming.report,
         adds,
-        told_by b.start.now a.start.now unit defs found.0 alarming.stuck count same.start found.1 alarming.counted alarming.some found.3.1,
+        subst (λ (l : List Path). TellsFaults a.start.now unit defs l found.0) alarming.stuck_are
+        (told_by b.start.now a.start.now unit defs found.0 alarming.stuck count same.start found.1 alarming.counted alarming.some found.3.1.0),
+        subst (λ (s : List ℕ). AreReal s unit defs found.0 alarming.alarms) same.start found.3.1.1,
       ),
     )
 

@@ -8,6 +8,7 @@ use Rattle.mc_flow.specs.declared.defs.rules.Def.{Def}
 use Rattle.mc_flow.specs.declared.graph.Flow.{Flow}
 use Rattle.mc_app.specs.Blocked.{FaultsComeBy}
 use Rattle.mc_app.specs.Checks.{IsSafeUnit}
+use Rattle.mc_app.specs.Real.{AreReal}
 use Rattle.mc_app.specs.declared.words.words.Analyse.{Analyse}
 use Rattle.mc_app.specs.Words.Words.{AsksAnalyse}
 use Rattle.mc_load.specs.Lowered.Graphs.{IsGraphOf, IsLong}
@@ -15,10 +16,11 @@ use Rattle.mc_app.specs.declared.analysing.Analysed.{Analysed}
 use Rattle.mc_app.specs.declared.analysing.Analysed.TheVariants.{TooLong, Found}
 
 -- what is found of this flow graph of the program means for its runs: with a certificate none has a fault; each that has one comes
--- by one of the blocked branches of the chain that is reported
+-- by one of the blocked branches of the chain that is reported, and the alarms with answers of malloc are real
 abbrev pub MeansForRuns : (start : List ℕ) (unit : UnitTree) (defs : List Def) (flow : Flow) (found : Analysis) → IsAnalysis flow defs found → Type 0
 MeansForRuns start unit defs flow (Safe f) proved = IsSafeUnit start unit defs
-MeansForRuns start unit defs flow (Alarms f count) alarming = FaultsComeBy start unit defs flow alarming.stuck
+MeansForRuns start unit defs flow (Alarms f count) alarming =
+    FaultsComeBy start unit defs flow alarming.stuck × AreReal start unit defs flow alarming.alarms
 MeansForRuns start unit defs flow (Paths document) crowded = Unit {0}
 MeansForRuns start unit defs flow Unknown looping = Unit {0}
 

@@ -1,7 +1,9 @@
 -- What a call's status means where its words give a command.
-use Rattle.std.specs.Prelude.{◌≡◌, ◌<◌, ◌⊎◌, ℕ, List, Option, Some, Ok, length}
+use Rattle.std.specs.Prelude.{◌≡◌, ◌<◌, ◌⊎◌, ℕ, List, Option, Some, Ok, length, map}
 use Rattle.mc_c_syntax.specs.Ast.Trees.{UnitTree}
 use Rattle.mc_document.specs.Judge.Verdicts.{IsChain}
+use Rattle.mc_exact.specs.Marks.{Alarm as MarkedAlarm}
+use Rattle.mc_find.specs.Analysis.Findings.{HasTooManyPaths}
 use Rattle.mc_flow.specs.declared.defs.rules.Def.{Def}
 use Rattle.mc_flow.specs.declared.graph.Flow.{Flow}
 use Rattle.mc_follow.specs.Report.Report.{IsChainReport}
@@ -9,19 +11,22 @@ use Rattle.mc_kernel.specs.Branches.{Path}
 use Rattle.mc_kernel.specs.Certificates.{WrittenHead}
 use Rattle.mc_load.specs.Inputs.Inputs.{AreInputs, Holds}
 use Rattle.mc_load.specs.Inputs.Texts.{AreDefinitions, IsProgramHere}
-use Rattle.mc_load.specs.Lowered.Graphs.{IsGraphOf}
+use Rattle.mc_load.specs.Lowered.Graphs.{IsGraphOf, IsLong}
 use Rattle.mc_outside.specs.Outside.{AddsIfTold, WhereTold}
 use Rattle.mc_app.specs.declared.analysing.Analysed.{Analysed}
 use Rattle.mc_app.specs.declared.answer.Status.{Status}
-use Rattle.mc_app.specs.declared.answer.Status.TheVariants.{Device, Memory}
+use Rattle.mc_app.specs.declared.answer.Status.TheVariants.{Good, Alarm, Words, Program, Definitions}
+use Rattle.mc_app.specs.declared.answer.Status.TheVariants.{Limit, Document, Device, Memory}
 use Rattle.mc_app.specs.declared.checking.Checked.{Checked}
 use Rattle.mc_app.specs.declared.running.Ran.{Ran}
+use Rattle.mc_app.specs.declared.words.words.Analyse.{Analyse}
 use Rattle.mc_app.specs.declared.words.words.Request.{Request}
 use Rattle.mc_app.specs.declared.words.words.Request.TheVariants as request
 use Rattle.mc_app.specs.Analyses.{IsWhyAnalysed}
 use Rattle.mc_app.specs.Answers.{AsksForSafety, analysed_status, checked_status, ran_status, sources_of}
 use Rattle.mc_app.specs.Blocked.{FaultsComeBy}
-use Rattle.mc_app.specs.Checks.{IsWhyChecked}
+use Rattle.mc_app.specs.Checks.{IsSafeUnit, IsWhyChecked}
+use Rattle.mc_app.specs.Real.{AreReal, IsClosedUnit}
 use Rattle.mc_app.specs.Runs.{IsWhyRan}
 use Rattle.mc_app.specs.Words.Words.{Asks}
 
@@ -33,15 +38,17 @@ pub record TellsFaults (start : List ℕ) (unit : UnitTree) (defs : List Def) (s
   pub some : 0 < length stuck
   pub finds : FaultsComeBy start unit defs flow stuck
 
--- these are the blocked branches of the document that a check was given, or those whose report an analysis has printed
+-- these are the blocked branches of the document that a check was given, or those whose report an analysis has printed: of them,
+-- those with answers of malloc are real
 abbrev pub AlarmsMean : Holds → (old new : Option (List ℕ)) → UnitTree → List Def → Request → Type 0
 AlarmsMean holds old new unit defs (request.Check c) =
     WhereTold (holds c.document.now)
     (λ document. (flow : Flow) × (stuck : List Path) × IsChain flow defs document stuck × TellsFaults c.start.now unit defs stuck flow)
 AlarmsMean holds old new unit defs (request.Run r) = Unit {0}
 AlarmsMean holds old new unit defs (request.Analyse a) =
-    (flow : Flow) × (heads : List WrittenHead) × (stuck : List Path) × (report : List ℕ) × IsChainReport flow defs heads stuck report
-    × AddsIfTold old report new (Ok tt) × TellsFaults a.start.now unit defs stuck flow
+    (flow : Flow) × (heads : List WrittenHead) × (alarms : List MarkedAlarm) × (report : List ℕ)
+    × IsChainReport flow defs heads alarms report × AddsIfTold old report new (Ok tt)
+    × TellsFaults a.start.now unit defs (map (λ x. x.0) alarms) flow × AreReal a.start.now unit defs flow alarms
 
 -- the words ask for a check or an analysis, and where it is known what the files of its program and definitions hold, they are a
 -- program and its definitions, of whose faults the alarms tell
@@ -77,3 +84,29 @@ abbrev pub IsComplete : Holds → List (List ℕ) → Status → Type 0
 IsComplete holds words status =
     (r : Request) (unit : UnitTree) (defs : List Def) → IsReady holds words r unit defs
     → (status ≡ Device) ⊎ ((status ≡ Memory) ⊎ ((q : Request) × Asks words q × EndsBy holds q unit defs status))
+
+-- ---- decisions
+
+-- a chain of the program's flow graph ends more branches than are followed
+abbrev pub HasManyPaths : (start : List ℕ) → UnitTree → List Def → Type 0
+HasManyPaths start unit defs =
+    (flow : Flow) × (document : List ℕ) × IsGraphOf start unit defs flow × HasTooManyPaths flow defs document
+
+-- the status of an analysis tells whether some run of the program has a fault, unless the program is too long or has too many
+-- paths, the device failed or memory ran out
+abbrev pub Decides : (start : List ℕ) → UnitTree → List Def → Status → Type 0
+Decides start unit defs Good = IsSafeUnit start unit defs
+Decides start unit defs Alarm = IsSafeUnit start unit defs → ⊥
+Decides start unit defs Program = IsLong start unit defs
+Decides start unit defs Limit = HasManyPaths start unit defs
+Decides start unit defs Device = Unit {0}
+Decides start unit defs Memory = Unit {0}
+Decides start unit defs Words = ⊥
+Decides start unit defs Definitions = ⊥
+Decides start unit defs Document = ⊥
+
+-- an analysis of a closed program, which is read and fits its definitions, decides it
+abbrev pub IsDecided : Holds → List (List ℕ) → Status → Type 0
+IsDecided holds words status =
+    (a : Analyse) (unit : UnitTree) (defs : List Def) → IsReady holds words (request.Analyse a) unit defs
+    → IsClosedUnit a.start.now unit defs → Decides a.start.now unit defs status

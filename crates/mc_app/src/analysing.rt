@@ -15,13 +15,16 @@ use crate::Answer;
 use crate::words::Analyse;
 use mc_c_check::Bound;
 use mc_c_grammar::places::ascending_places_differ;
+use mc_exact::{closed_alarms_are_marked, marks_are_exact};
 use mc_find::analysis::{Analysis, analyse};
 use mc_kernel::{certificates_are_safe, last_pass_finds_faults};
 use mc_load::inputs::{Sources, read};
 use mc_load::lowered::graph;
 use mc_load::read::programs_have_distinct_places;
+use mc_lower_laws::closed::closed_programs_ask_for_malloc_alone;
 use mc_lower_laws::scoped::{faults_are_in_flow_graphs, safe_flow_graphs_mean_safe_trees};
 use mc_outside::{FileFault, Files};
+use mc_real::marked_alarms_are_real;
 use std::alloc::{AllocError, Global};
 
 /// What the analysis of a program comes to, where the program and its definitions fit.
@@ -41,13 +44,18 @@ fn analyse_bound(alloc: Global, names: Analyse<'_>, bound: &Bound) -> Result<Ana
         → IsSafeUnit names.entry.start.now (unit_of bound.now.typed.unit) bound.now.defs) }
 {
     // For the proof alone: a certificate means a safe flow graph, and that a safe program; a chain without changes tells by which
-    // branches faults come, and a program's faults are those of its flow graph.
+    // branches faults come, and a program's faults are those of its flow graph; alarms with answers of malloc are real, and those
+    // of closed programs all have some.
     certificates_are_safe();
     safe_flow_graphs_mean_safe_trees();
     last_pass_finds_faults();
     faults_are_in_flow_graphs();
     programs_have_distinct_places();
     ascending_places_differ();
+    marks_are_exact();
+    closed_alarms_are_marked();
+    marked_alarms_are_real();
+    closed_programs_ask_for_malloc_alone();
     let defs = bound.defs();
     match graph(alloc, bound)? {
         Ok(lowered) => {

@@ -2,14 +2,16 @@
 ghost use Rattle.std.specs.Prelude.{ℕ, List};
 ghost use Rattle.mc_app.specs.Alike.{AreJudgedAlike};
 ghost use Rattle.mc_app.specs.Answers.{IsWhyWords, status_of};
-ghost use Rattle.mc_app.specs.Statuses.{IsComplete};
+ghost use Rattle.mc_app.specs.Statuses.{IsComplete, IsDecided};
 ghost use Rattle.mc_app.specs.declared.answer.Answer.{Answer};
+ghost use Rattle.mc_app.specs.declared.answer.Status.{Status};
 ghost use Rattle.mc_load.specs.Inputs.Inputs.{Holds};
 
 use mc_def_read::texts_are_read_once as definitions_are_read_once;
 use mc_document::laws::open_documents_end_early;
 use mc_kernel::oracle::judges_are_there;
 use mc_load::read::{programs_are_not_refused, texts_are_read_once};
+use mc_lower_laws::closed::closed_programs_ask_for_malloc_alone;
 use mc_lower_laws::single::flow_graphs_are_one;
 
 /// Where an analysis finds a program safe, or finds alarms, a check of the document that it has left ends with the same status;
@@ -36,4 +38,12 @@ pub fn answers_are_complete()
     flow_graphs_are_one();
     judges_are_there();
     open_documents_end_early();
+}
+
+/// Where a command that has its program and definitions ends by them, an analysis of a closed program decides it.
+pub fn closed_programs_are_decided()
+    ensures { (holds : Holds) (words : List (List ℕ)) (status : Status)
+        → IsComplete holds words status → IsDecided holds words status }
+{
+    closed_programs_ask_for_malloc_alone();
 }

@@ -7,11 +7,13 @@ ghost use Rattle.mc_app.specs.Alike.{IsLikeAnalysis};
 ghost use Rattle.mc_app.specs.Answers.{AsksForSafety, EndsWith, HasTarget, IsSafeForWords, IsWhyWords, Keeps, OnlyTargetChanges, PrintsPart, TargetHoldsPart, document_of, sources_of, status_of, target_of};
 ghost use Rattle.mc_app.specs.Checks.{IsSafeWhereTold};
 ghost use Rattle.mc_app.specs.Faults.{fault_status};
-ghost use Rattle.mc_app.specs.Statuses.{AlarmsTell, IsComplete};
+ghost use Rattle.mc_app.specs.Statuses.{AlarmsTell, IsComplete, IsDecided};
 
 use crate::analysing::answer_analysis;
 use crate::checking::answer_check;
-use crate::laws::{answers_are_complete, documents_are_judged_alike};
+use crate::laws::{
+    answers_are_complete, closed_programs_are_decided, documents_are_judged_alike,
+};
 use crate::running::answer_run;
 use crate::words::{Request, asked};
 use crate::{Answer, Status};
@@ -131,10 +133,13 @@ pub fn memcad<F: Files, K: Sink>(
 ) -> Status
     // Where a document is accepted or a certificate was found, no run of the program has a fault.
     ensures safe { result ≡ Status.Good → IsSafeForWords (F.holds files.old) (map string_bytes words.now) }
-    // Where there are alarms, every run of the program that has a fault comes by one of the branches that are reported.
+    // Where there are alarms, every run of the program that has a fault comes by one of the branches that are reported; and where
+    // an alarm of an analysis carries a script, the program faults there with it. In closed programs each carries one.
     ensures alarms { result ≡ Status.Alarm → AlarmsTell (F.holds files.old) (map string_bytes words.now) (K.written out.old) (K.written out.new) }
     // A command whose program and definitions are read and fit ends by its document, its script or what is found.
     ensures complete { IsComplete (F.holds files.old) (map string_bytes words.now) result }
+    // An analysis of a closed program ends with 0 where it is safe, and with 1 where it is not.
+    ensures decided { IsDecided (F.holds files.old) (map string_bytes words.now) result }
     // A check of the document that an analysis of the same program has left ends like it.
     ensures alike { IsLikeAnalysis (F.holds files.old) (map string_bytes words.now) (K.written out.old) (K.written out.new) result }
     // Each answer has its cause, leaves its document and prints its text. A call without an answer ran out of memory, or the
@@ -150,8 +155,10 @@ pub fn memcad<F: Files, K: Sink>(
     ensures same { OnlyTargetChanges (map string_bytes words.now) (F.holds files.old) (F.holds files.new) }
     ensures leaves_part { TargetHoldsPart (map string_bytes words.now) (F.holds files.old) (F.holds files.new) }
 {
-    // For the proof alone: an answer that has its cause is that of the command, and a document is judged as it was found.
+    // For the proof alone: an answer that has its cause is that of the command, closed programs are decided, and a document is
+    // judged as it was found.
     answers_are_complete();
+    closed_programs_are_decided();
     documents_are_judged_alike();
     match found(alloc, words, files) {
         Err(fault) => status_of(fault),

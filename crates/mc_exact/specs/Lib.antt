@@ -4,4 +4,5 @@ pub mod Real
 pub mod Tracks
 pub mod Scripts
 pub mod Marks
+pub mod Made
 pub mod Examples

@@ -8,6 +8,7 @@
 mod closed;
 mod examples;
 mod laws;
+mod made;
 mod picks;
 
 pub use closed::asks_malloc_alone;
@@ -16,4 +17,5 @@ pub use laws::{
     alarms_are_real, closed_alarms_are_marked, least_valuations_are_true, marks_are_exact,
     tracks_stay_exact,
 };
+pub use made::exact_states_are_well_made;
 pub use picks::{answers, least};

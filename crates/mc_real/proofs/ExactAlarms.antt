@@ -27,7 +27,7 @@ use Rattle.mc_real.specs.Near.{FlowFaultsAreNear}
 use Rattle.mc_real.specs.Real.{ClosedAlarmsAreReal, ExactAlarmsAreReached, ExactAlarmsAreReal, IsRealGap, IsShortProgram}
 
 -- what the instructions of closed programs ask for is said in two crates alike
-closed_code : (code : Instr) → IsClosedCode code → IsClosed code
+pub closed_code : (code : Instr) → IsClosedCode code → IsClosed code
 closed_code (instr.Skip q) is = tt
 closed_code (instr.Copy x o q) is = tt
 closed_code (instr.Undef xs q) is = tt

@@ -2,3 +2,5 @@ pub mod Lasting
 pub mod Bounding
 pub mod NearFaults
 pub mod ExactAlarms
+mod ScriptLines
+mod Marked

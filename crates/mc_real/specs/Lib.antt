@@ -1,2 +1,4 @@
 pub mod Near
 pub mod Real
+pub mod Scripts
+pub mod Marked

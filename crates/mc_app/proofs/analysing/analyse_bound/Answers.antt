@@ -11,6 +11,7 @@ use Rattle.mc_lower.specs.declared.lowering.Lowered.{Lowered}
 use Rattle.mc_load.specs.Lowered.Graphs.{IsGraphOf}
 use Rattle.mc_app.specs.Checks.{IsSafeUnit}
 use Rattle.mc_app.proofs.Meaning.{found_means}
+use Rattle.mc_app.proofs.Real.{RealLaws, are_real}
 use Rattle.mc_app.proofs.Safe.{graph_faults, has_entry, safe_graph}
 use Rattle.mc_app.proofs.analysing.analyse_bound.Goals as goal
 use Rattle.mc_load.proofs.InputsLemmas.Picking.{only_ok}
@@ -35,7 +36,17 @@ returns-in_ok-found-in-Ok-clause-why c =
     let proved = subst (λ (a : Analysis). IsAnalysis flow bound.defs a) e is in
     safe_graph c.safe_flow_graphs_mean_safe_trees.ensures c.ascending_places_differ.ensures c.programs_have_distinct_places.ensures has_entry c.args.names.start.now unit bound.defs flow c.requires.well_formed graph
     (c.certificates_are_safe.ensures flow bound.defs proved.lines valid proved.valid) in
-    (flow, graph, short, (is, found_means c.args.names.start.now unit bound.defs flow (λ stuck only. comes stuck c.requires.well_formed graph only) c.last_pass_finds_faults.ensures valid found safe is))
+    let laws : RealLaws = record {
+      differ = c.ascending_places_differ.ensures;
+      apart = c.programs_have_distinct_places.ensures;
+      exact = c.marks_are_exact.ensures;
+      marked = c.closed_alarms_are_marked.ensures;
+      real = c.marked_alarms_are_real.ensures;
+      closed = c.closed_programs_ask_for_malloc_alone.ensures;
+    } in
+    let real = are_real laws c.args.names.start.now unit bound.defs flow c.requires.well_formed graph valid short in
+    let means = found_means c.args.names.start.now unit bound.defs flow (λ stuck only. comes stuck c.requires.well_formed graph only) c.last_pass_finds_faults.ensures valid real found safe is in
+    (flow, graph, short, (is, means))
 
 pub returns-in_ok-found-in-Ok-clause-safe : goal.returns-in_ok-found-in-Ok-clause-safe
 returns-in_ok-found-in-Ok-clause-safe c = λ f good.

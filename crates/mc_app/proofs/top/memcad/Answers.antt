@@ -1,10 +1,11 @@
 use Rattle.std.proofs.Common.{◌∙◌, map, option_map, subst, sym}
 use Rattle.std.specs.Prelude.{string_bytes}
 use Rattle.mc_app.specs.Alike.{IsLikeAnalysis}
-use Rattle.mc_app.specs.Answers.{document_of}
+use Rattle.mc_app.specs.Answers.{document_of, status_of}
 use Rattle.mc_app.proofs.Leaving.{answer_ends, fault_ends, leaves_document, only_target, target_part}
-use Rattle.mc_app.specs.Statuses.{IsComplete}
+use Rattle.mc_app.specs.Statuses.{IsComplete, IsDecided}
 use Rattle.mc_app.specs.declared.answer.Status.{Status}
+use Rattle.mc_app.proofs.Deciding.{fault_decides}
 use Rattle.mc_app.proofs.Printing.{part_of_answer}
 use Rattle.mc_app.proofs.Telling.{alarms_tell, answer_is_like, fault_completes, fault_is_like, fault_tells}
 use Rattle.mc_app.proofs.top.memcad.Goals as goal
@@ -122,3 +123,10 @@ returns-clause-alike g c =
     let words = map string_bytes c.args.words.now in
     let like = answer_is_like c.documents_are_judged_alike.ensures holds words c.in-Ok.reply.answer _ _ c.in-Ok.ensures.why c.in-Ok-tell.ensures.adds in
     subst (λ (s : Status). IsLikeAnalysis holds words (g.K.Sink.written c.args.out.now) (g.K.Sink.written c.tell.new.out) s) (sym c.status.ensures) like
+
+pub returns-clause-decided : goal.returns-clause-decided
+returns-clause-decided g c =
+    let holds = g.F.Files.holds c.args.files.now in
+    let words = map string_bytes c.args.words.now in
+    let complete = c.answers_are_complete.ensures holds words c.in-Ok.reply.answer c.in-Ok.ensures.why in
+    subst (λ (s : Status). IsDecided holds words s) (sym c.status.ensures) (c.closed_programs_are_decided.ensures holds words (status_of c.in-Ok.reply.answer) complete)
