@@ -13,7 +13,7 @@ use Rattle.mc_load.specs.Lowered.Graphs.{IsGraphOf}
 use Rattle.mc_outside.specs.Outside.{AddsIfTold, WhereTold}
 use Rattle.mc_app.specs.declared.analysing.Analysed.{Analysed}
 use Rattle.mc_app.specs.declared.answer.Status.{Status}
-use Rattle.mc_app.specs.declared.answer.Status.TheVariants.{Device, Memory}
+use Rattle.mc_app.specs.declared.answer.Status.TheVariants.{Good, Device, Memory}
 use Rattle.mc_app.specs.declared.checking.Checked.{Checked}
 use Rattle.mc_app.specs.declared.running.Ran.{Ran}
 use Rattle.mc_app.specs.declared.words.words.Request.{Request}
@@ -39,6 +39,7 @@ AlarmsMean holds old new unit defs (request.Check c) =
     WhereTold (holds c.document.now)
     (λ document. (flow : Flow) × (stuck : List Path) × IsChain flow defs document stuck × TellsFaults c.start.now unit defs stuck flow)
 AlarmsMean holds old new unit defs (request.Run r) = Unit {0}
+AlarmsMean holds old new unit defs (request.Demo n) = Unit {0}
 AlarmsMean holds old new unit defs (request.Analyse a) =
     (flow : Flow) × (heads : List WrittenHead) × (stuck : List Path) × (report : List ℕ) × IsChainReport flow defs heads stuck report
     × AddsIfTold old report new (Ok tt) × TellsFaults a.start.now unit defs stuck flow
@@ -64,10 +65,11 @@ pub record IsReady (holds : Holds) (words : List (List ℕ)) (r : Request) (unit
   pub inputs : AreInputs holds (sources_of r) unit defs
 
 -- a command whose program and definitions are these ends with this status: a check by its document alone, a run by its script and
--- its steps, an analysis by what it found
+-- its steps, an analysis by what it found; `demo` ends well
 abbrev pub EndsBy : Holds → Request → UnitTree → List Def → Status → Type 0
 EndsBy holds (request.Check c) unit defs status =
     (found : Checked) × IsWhyChecked holds c unit defs found × (status ≡ checked_status found)
+EndsBy holds (request.Demo n) unit defs status = status ≡ Good
 EndsBy holds (request.Run r) unit defs status = (found : Ran) × IsWhyRan holds r unit defs found × (status ≡ ran_status found)
 EndsBy holds (request.Analyse a) unit defs status =
     (found : Analysed) × IsWhyAnalysed a unit defs found × (status ≡ analysed_status found)

@@ -11,6 +11,7 @@ ghost use Rattle.mc_app.specs.Statuses.{AlarmsTell, IsComplete};
 
 use crate::analysing::answer_analysis;
 use crate::checking::answer_check;
+use crate::demo::demo;
 use crate::laws::{answers_are_complete, documents_are_judged_alike};
 use crate::running::answer_run;
 use crate::words::{Request, asked};
@@ -51,6 +52,10 @@ fn answered<F: Files>(
             let answer = answer_analysis(alloc, files, names)?;
             Ok(answer)
         }
+        Request::Demo(number) => {
+            let text = demo(alloc, number)?;
+            Ok(Answer::Demo(text))
+        }
     }
 }
 
@@ -62,6 +67,7 @@ fn target<'w>(request: Request<'w>) -> Option<&'w str>
         Request::Check(_) => None,
         Request::Run(_) => None,
         Request::Analyse(names) => names.document,
+        Request::Demo(_) => None,
     }
 }
 
@@ -122,7 +128,8 @@ fn status_of(fault: FileFault) -> Status
     }
 }
 
-/// Does what the words ask for: checks a document, runs a program on a script, or analyses a program. The answer is printed.
+/// Does what the words ask for: checks a document, runs a program on a script, analyses a program, or analyses programs that it makes.
+/// The answer is printed.
 pub fn memcad<F: Files, K: Sink>(
     alloc: Global,
     words: &[String],
