@@ -4,5 +4,5 @@ mod lines;
 mod print;
 mod seen;
 
-pub use lines::demo;
+pub use lines::demo_text;
 pub use seen::Seen;

@@ -6,12 +6,13 @@ ghost use Rattle.mc_app.specs.Printing.{text_of};
 ghost use Rattle.mc_app.specs.Alike.{IsLikeAnalysis};
 ghost use Rattle.mc_app.specs.Answers.{AsksForSafety, EndsWith, HasTarget, IsSafeForWords, IsWhyWords, Keeps, OnlyTargetChanges, PrintsPart, TargetHoldsPart, document_of, sources_of, status_of, target_of};
 ghost use Rattle.mc_app.specs.Checks.{IsSafeWhereTold};
+ghost use Rattle.mc_app.specs.Demo.Ending.{EndsWellForDemo};
 ghost use Rattle.mc_app.specs.Faults.{fault_status};
 ghost use Rattle.mc_app.specs.Statuses.{AlarmsTell, IsComplete};
 
 use crate::analysing::answer_analysis;
 use crate::checking::answer_check;
-use crate::demo::demo;
+use crate::demo::demo_text;
 use crate::laws::{answers_are_complete, documents_are_judged_alike};
 use crate::running::answer_run;
 use crate::words::{Request, asked};
@@ -53,7 +54,7 @@ fn answered<F: Files>(
             Ok(answer)
         }
         Request::Demo(number) => {
-            let text = demo(alloc, number)?;
+            let text = demo_text(alloc, number)?;
             Ok(Answer::Demo(text))
         }
     }
@@ -142,6 +143,8 @@ pub fn memcad<F: Files, K: Sink>(
     ensures alarms { result ≡ Status.Alarm → AlarmsTell (F.holds files.old) (map string_bytes words.now) (K.written out.old) (K.written out.new) }
     // A command whose program and definitions are read and fit ends by its document, its script or what is found.
     ensures complete { IsComplete (F.holds files.old) (map string_bytes words.now) result }
+    // Where the words ask for programs that are made, all is well.
+    ensures demo { EndsWellForDemo (map string_bytes words.now) result }
     // A check of the document that an analysis of the same program has left ends like it.
     ensures alike { IsLikeAnalysis (F.holds files.old) (map string_bytes words.now) (K.written out.old) (K.written out.new) result }
     // Each answer has its cause, leaves its document and prints its text. A call without an answer ran out of memory, or the

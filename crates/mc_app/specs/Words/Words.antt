@@ -23,15 +23,18 @@ Reads app words id word = first_of id (matches_of app words) ≡ Some word
 abbrev pub ReadsPerhaps : App → List (List ℕ) → List ℕ → Option (List ℕ) → Type 0
 ReadsPerhaps app words id word = first_of id (matches_of app words) ≡ word
 
+-- the number of so many bits that a command reads at one of its names
+abbrev pub ReadsUnsigned : (bits : ℕ) → App → List (List ℕ) → List ℕ → ℕ → Type 0
+ReadsUnsigned bits app words id n =
+    (number : List ℕ) × (one_of id (matches_of app words) ≡ Some number) × ParsesUnsigned {E = Unit {0}} bits 10 number (Ok n)
+
 -- the number that a command reads at one of its names
 abbrev pub ReadsNumber : App → List (List ℕ) → List ℕ → ℕ → Type 0
-ReadsNumber app words id n =
-    (number : List ℕ) × (one_of id (matches_of app words) ≡ Some number) × ParsesUnsigned {E = Unit {0}} 64 10 number (Ok n)
+ReadsNumber = ReadsUnsigned 64
 
 -- the number below 2^32 that a command reads at one of its names
 abbrev pub ReadsSmallNumber : App → List (List ℕ) → List ℕ → ℕ → Type 0
-ReadsSmallNumber app words id n =
-    (number : List ℕ) × (one_of id (matches_of app words) ≡ Some number) × ParsesUnsigned {E = Unit {0}} 32 10 number (Ok n)
+ReadsSmallNumber = ReadsUnsigned 32
 
 -- the words are a `check` with these files and this entry
 pub record AsksCheck (words : List (List ℕ)) (c : Check) : Type 0 where

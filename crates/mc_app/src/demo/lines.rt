@@ -11,7 +11,7 @@ use std::alloc::{AllocError, Global};
 const PROGRAMS: u64 = 64;
 
 /// What is printed of the programs that come of a number: each is made, analysed, and the document of its analysis judged.
-pub fn demo(alloc: Global, number: u32) -> Result<Vec<u8>, AllocError>
+pub fn demo_text(alloc: Global, number: u32) -> Result<Vec<u8>, AllocError>
     ensures { IfOk result (λ text. IsDemo number text.items) }
 {
     let mut text = Vec::new(alloc);
