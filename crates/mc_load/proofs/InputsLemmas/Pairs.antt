@@ -13,7 +13,7 @@ module _ (start text definitions : List ℕ) (typed : Typed) where
   pub pair_of : (r : Result BoundProgram Refusal) → IsProgramHere start text (unit_of typed.unit) → MatchResult r (IsBoundTo definitions typed) (AreRefusedWith definitions (unit_of typed.unit))
       → MatchResult r (λ (bound : BoundProgram). ArePair start text definitions (unit_of bound.typed.unit) bound.defs) (AreRefused start text definitions)
   pair_of (Ok bound) program told =
-      let read : ArePair start text definitions (unit_of typed.unit) bound.defs = record { program = program; definitions = told.1; fit = told.2 } in
+      let read : ArePair start text definitions (unit_of typed.unit) bound.defs = record { program = program; defined = told.1; fit = told.2 } in
       subst (λ (t : Typed). ArePair start text definitions (unit_of t.unit) bound.defs) (sym told.0) read
   pair_of (Err (Program cause)) program told = absurd told
   pair_of (Err (Definitions cause)) program told = (unit_of typed.unit, program, told)

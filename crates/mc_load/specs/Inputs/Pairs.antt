@@ -13,7 +13,7 @@ use Rattle.mc_load.specs.Inputs.Texts.{AreDefinitions, HasMisfit, IsProgramHere,
 -- the texts are this program and these definitions, and its shape commands fit them
 pub record ArePair (start text definitions : List ℕ) (unit : UnitTree) (defs : List Def) : Type 0 where
   pub program : IsProgramHere start text unit
-  pub definitions : AreDefinitions unit defs definitions
+  pub defined : AreDefinitions unit defs definitions
   pub fit : IsBound unit defs
 
 -- the program is bound to definitions that the text is, and its shape commands fit them
