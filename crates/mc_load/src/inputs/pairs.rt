@@ -4,7 +4,9 @@ ghost use Rattle.mc_c_syntax.specs.Ast.Views.{unit_of};
 ghost use Rattle.mc_load.specs.Inputs.Pairs.{ArePair, AreRefused, AreRefusedWith, IsBoundTo};
 ghost use Rattle.mc_load.specs.Inputs.Texts.{IsWellFormed};
 
-use crate::inputs::reading::{DEFINITION_BYTES, PROGRAM_BYTES, bound, read_definitions, read_program};
+use crate::inputs::reading::{
+    DEFINITION_BYTES, PROGRAM_BYTES, bound, read_definitions, read_program,
+};
 use crate::inputs::refusal::{NoDefinitions, NoProgram, Refusal};
 use mc_c_check::{Bound, Typed};
 use std::alloc::{AllocError, Global};

@@ -117,7 +117,11 @@ fn definitions_in<F: Files>(
 }
 
 /// The program with its definitions, or the first fault of its shape commands.
-pub fn bound(alloc: Global, typed: Typed, defs: Defs) -> Result<Result<Bound, ProgramFault>, AllocError>
+pub fn bound(
+    alloc: Global,
+    typed: Typed,
+    defs: Defs,
+) -> Result<Result<Bound, ProgramFault>, AllocError>
     requires { DefsFit (struct_infos (unit_of typed.unit)) defs }
     ensures { IfOk result (λ r. MatchResult r (λ bound. Binds bound typed defs × IsBound (unit_of typed.unit) defs)
         (HasMisfit (unit_of typed.unit) defs)) }

@@ -11,8 +11,8 @@ returns-in-Err c =
     let refused = at_err c.in_ok-read_pair.field-0 c.in-Err.field-0 _ _ c.in-Err.is c.in_ok-read_pair.ensures.read in
     inl (refl, (c.in-Err.field-0, subst (λ (defs : List ℕ). AreRefused start text defs c.in-Err.field-0) c.definitions.ensures refused))
 
-pub returns-in_ok-seen-in-Ok : goal.returns-in_ok-seen-in-Ok
-returns-in_ok-seen-in-Ok c =
+pub returns : goal.returns
+returns c =
     let text = c.args.text.now in
     let bound = c.in-Ok.bound in
     let unit = unit_of bound.typed.unit in
