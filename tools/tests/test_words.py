@@ -17,7 +17,7 @@ MISSING = "cannot be read: No such file or directory"
 CASES = [
     ("", 2, REFUSED, ["memcad: a command is missing", "  check ", "  run ", "  analyse "]),
     ("chek", 2, REFUSED, ["memcad: unrecognized subcommand 'chek'", "'check'", "\nCommands:\n  check ", "  run ", "  analyse "]),
-    ("--help", 2, REFUSED, ["  check ", "  run ", "  analyse ", "  0  safe", "  9  ", "docs/FORMATS.md"]),
+    ("--help", 2, REFUSED, ["  check ", "  run ", "  analyse ", "  demo ", "  0  safe", "  9  ", "docs/FORMATS.md"]),
     ("-h", 2, REFUSED, ["Usage: memcad <COMMAND>"]),
     ("--version", 2, REFUSED, ["memcad 1"]),
     ("check --help", 2, REFUSED, ["Usage: memcad check [OPTIONS] <PROGRAM> <DEFINITIONS> <DOCUMENT>"]),
@@ -28,6 +28,9 @@ CASES = [
     (f"run {FILES} list.s --fuel many", 2, REFUSED, ["memcad: invalid value 'many' for '--fuel <N>'"]),
     (f"analyse {FILES} --disjunct 4", 2, REFUSED, ["memcad: unexpected argument '--disjunct' found", "'--disjuncts'"]),
     (f"run {FILES} list.s more", 2, REFUSED, ["memcad: unexpected argument 'more' found"]),
+    ("demo", 2, REFUSED, ["memcad: the following required arguments were not provided:\n  <NUMBER>", "Usage: memcad demo"]),
+    ("demo x", 2, REFUSED, ["memcad: invalid value 'x' for '<NUMBER>'"]),
+    ("demo 4294967296", 2, REFUSED, ["memcad: invalid value '4294967296' for '<NUMBER>'"]),
     ("analyse none.c none.d", 7, "", [f"memcad: none.c: {MISSING}", f"memcad: none.d: {MISSING}"]),
     (f"check {FILES} none.t", 7, "", [f"memcad: none.t: {MISSING}"]),
     ("analyse list.c .", 7, "", ["memcad: .: cannot be read: Is a directory"]),
@@ -52,6 +55,14 @@ def test_words_that_give_no_verdict(folder, words, status, printed, said):
     it = ran(folder, words)
     assert (it.returncode, it.stdout) == (status, printed)
     assert all(part in it.stderr for part in said), it.stderr
+
+
+def test_programs_are_made_and_judged(folder):
+    one, other = ran(folder, "demo 0"), ran(folder, "demo 0")
+    lines = one.stdout.splitlines()
+    assert (one.returncode, one.stderr, other.stdout) == (0, "", one.stdout)
+    assert lines[0].startswith("1: 1 3 4: alarms: ") and lines[1] == "2: 0 1 0: safe"
+    assert len(lines) == 65 and lines[64].startswith("demo: ")
 
 
 def test_a_verdict_says_nothing_more(folder):

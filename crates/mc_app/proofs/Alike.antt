@@ -48,18 +48,18 @@ use Rattle.mc_app.specs.declared.words.words.Request.{Request}
 use Rattle.mc_app.specs.declared.words.words.Request.TheVariants as request
 use Rattle.mc_app.specs.Words.Words.{Asks, AsksAnalyse, AsksCheck}
 use Rattle.mc_app.specs.Alike.{AreJudgedAlike, AreStill, EndAlike, IsFoundStatus, NamesSame}
-use Rattle.mc_app.specs.Answers.{IsWhyWords, analysed_document, checked_status, sources_of, status_of}
+use Rattle.mc_app.specs.Answers.{IsRefusedFor, IsWhyWords, analysed_document, checked_status, sources_of, status_of}
 use Rattle.mc_load.specs.Lowered.Graphs.{IsGraphOf, IsLong}
 use Rattle.mc_app.specs.Checks.{IsJudged, IsWhyChecked}
 use Rattle.mc_app.specs.Documents.{IsVerdictOn}
 use Rattle.mc_app.specs.declared.answer.Answer.{Answer}
-use Rattle.mc_app.specs.declared.answer.Answer.TheVariants.{Words, Refused, Checked, Ran, Analysed}
+use Rattle.mc_app.specs.declared.answer.Answer.TheVariants.{Words, Refused, Checked, Ran, Analysed, Demo}
 use Rattle.mc_app.specs.declared.analysing.Analysed.{Analysed as Results}
 use Rattle.mc_app.specs.declared.analysing.Analysed.TheVariants as results
 use Rattle.mc_app.specs.declared.answer.Status.TheVariants as statuses
 use Rattle.mc_app.specs.declared.checking.Checked.{Checked as Found}
 use Rattle.mc_app.specs.declared.checking.Checked.TheVariants.{TooLong, Judged}
-use Rattle.mc_app.proofs.Asked.{no_analysis, no_other, no_run, one_word}
+use Rattle.mc_app.proofs.Asked.{no_analysis, no_demo_analysis, no_demo_check, no_other, no_run, one_word}
 
 -- what is known of texts and flow graphs
 pub record Laws : Type 0 where
@@ -230,12 +230,13 @@ module _ (laws : Laws) (after : Holds) (more : List (List ℕ)) (c : Check) (ask
       absurd (omega (arith, same, why.2, short))
   judged d too (Judged v) why = verdict_on d too v why (analysed_document (results.Found found)) refl
 
-  refused_never : (r : Request) (refusal : Refusal) → Asks more r → IsRefused after (sources_of r) refusal → ⊥
+  refused_never : (r : Request) (refusal : Refusal) → Asks more r → IsRefusedFor after r refusal → ⊥
   refused_never (request.Check d) refusal too refused =
       never laws c.start.now text definitions unit defs here after (sources_of (request.Check d)) c.program.now c.definitions.now (program_too d too) (definitions_too d too) (start_too d too)
       told defined refusal refused
   refused_never (request.Run r) refusal too refused = no_run more c r asks too
   refused_never (request.Analyse a) refusal too refused = no_analysis more c a asks too
+  refused_never (request.Demo n) refusal too refused = refused
 
   pub answers : (other : Answer) → IsWhyWords after more other → EndAlike (Analysed (results.Found found)) other
   answers Words why = absurd (why (request.Check c) asks)
@@ -247,6 +248,7 @@ module _ (laws : Laws) (after : Holds) (more : List (List ℕ)) (c : Check) (ask
       (subst (λ (ds : List Def). IsWhyChecked after why.0 unit ds ending) same.1 (subst (λ (u : UnitTree). IsWhyChecked after why.0 u why.2.1 ending) same.0 why.2.3)))
   answers (Ran ending) why = absurd (no_run more c why.0 asks why.1)
   answers (Analysed ending) why = absurd (no_analysis more c why.0 asks why.1)
+  answers (Demo printed) why = absurd (no_demo_check more c why.0 asks why.1)
 
 -- ---- both calls
 
@@ -277,5 +279,6 @@ alike laws before after words more a c (Refused (Definitions cause)) other asks 
 alike laws before after words more a c (Refused (Misfit fault)) other asks too names still why left then = nothing_found (Refused (Misfit fault)) other not_program (λ e. cc)
 alike laws before after words more a c (Checked ending) other asks too names still why left then = absurd (no_analysis words why.0 a why.1 asks)
 alike laws before after words more a c (Ran ending) other asks too names still why left then = absurd (no_other words why.0 a why.1 asks)
+alike laws before after words more a c (Demo printed) other asks too names still why left then = absurd (no_demo_analysis words a why.0 asks why.1)
 alike laws before after words more a c (Analysed results.TooLong) other asks too names still why left then = nothing_found (Analysed results.TooLong) other not_program (λ e. cc)
 alike laws before after words more a c (Analysed (results.Found found)) other asks too names still why left then = alike_found laws before after words more a c found other asks too names still why left then

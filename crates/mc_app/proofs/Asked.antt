@@ -7,7 +7,7 @@ use Rattle.mc_app.specs.declared.words.words.Request.{Request}
 use Rattle.mc_app.specs.declared.words.words.Request.TheVariants as request
 use Rattle.mc_app.specs.declared.words.words.Run.{Run}
 use Rattle.mc_app.specs.Words.Commands.{analyse_app, check_app}
-use Rattle.mc_app.specs.Words.Words.{Asks, AsksAnalyse, AsksCheck, AsksRun, Reads}
+use Rattle.mc_app.specs.Words.Words.{Asks, AsksAnalyse, AsksCheck, AsksDemo, AsksRun, Reads}
 use Rattle.mc_outside.specs.Outside.{WhereTold}
 use Rattle.mc_find.specs.declared.analysis.analysis.Analysis.TheVariants as analysis
 use Rattle.mc_find.specs.declared.analysis.analysis.Findings.{Findings}
@@ -17,7 +17,7 @@ use Rattle.mc_load.specs.declared.inputs.refusal.Refusal.TheVariants as refusals
 use Rattle.mc_document.specs.declared.judge.verdict.Verdict.TheVariants.{Safe, Alarms, Refused as Mistaken}
 use Rattle.mc_app.specs.declared.analysing.Analysed.TheVariants as results
 use Rattle.mc_app.specs.declared.answer.Answer.{Answer}
-use Rattle.mc_app.specs.declared.answer.Answer.TheVariants.{Words, Refused, Checked, Ran, Analysed}
+use Rattle.mc_app.specs.declared.answer.Answer.TheVariants.{Words, Refused, Checked, Ran, Analysed, Demo}
 use Rattle.mc_app.specs.declared.answer.Status.TheVariants as statuses
 use Rattle.mc_app.specs.declared.checking.Checked.TheVariants.{TooLong, Judged}
 use Rattle.mc_app.specs.Answers.{AsksForSafety, HasTarget, IsAsked, IsSafeForWords, IsWhyWords, sources_of, status_of, target_of}
@@ -45,6 +45,15 @@ check_or_analyse rest other e = cc
 run_or_analyse : (rest other : List (List ℕ)) → codes "run" ∷ rest ≡ codes "analyse" ∷ other → ⊥
 run_or_analyse rest other e = cc
 
+check_or_demo : (rest other : List (List ℕ)) → codes "check" ∷ rest ≡ codes "demo" ∷ other → ⊥
+check_or_demo rest other e = cc
+
+run_or_demo : (rest other : List (List ℕ)) → codes "run" ∷ rest ≡ codes "demo" ∷ other → ⊥
+run_or_demo rest other e = cc
+
+analyse_or_demo : (rest other : List (List ℕ)) → codes "analyse" ∷ rest ≡ codes "demo" ∷ other → ⊥
+analyse_or_demo rest other e = cc
+
 pub no_run : (words : List (List ℕ)) (c : Check) (r : Run) → AsksCheck words c → AsksRun words r → ⊥
 no_run words c r check run = check_or_run check.named.0.0 run.named.0.0 (sym check.named.0.1 ∙ run.named.0.1)
 
@@ -53,6 +62,15 @@ no_analysis words c a check analyse = check_or_analyse check.named.0.0 analyse.n
 
 pub no_other : (words : List (List ℕ)) (r : Run) (a : Analyse) → AsksRun words r → AsksAnalyse words a → ⊥
 no_other words r a run analyse = run_or_analyse run.named.0.0 analyse.named.0.0 (sym run.named.0.1 ∙ analyse.named.0.1)
+
+pub no_demo_check : (words : List (List ℕ)) (c : Check) (n : ℕ) → AsksCheck words c → AsksDemo words n → ⊥
+no_demo_check words c n check demo = check_or_demo check.named.0.0 demo.named.0.0 (sym check.named.0.1 ∙ demo.named.0.1)
+
+pub no_demo_run : (words : List (List ℕ)) (r : Run) (n : ℕ) → AsksRun words r → AsksDemo words n → ⊥
+no_demo_run words r n run demo = run_or_demo run.named.0.0 demo.named.0.0 (sym run.named.0.1 ∙ demo.named.0.1)
+
+pub no_demo_analysis : (words : List (List ℕ)) (a : Analyse) (n : ℕ) → AsksAnalyse words a → AsksDemo words n → ⊥
+no_demo_analysis words a n analyse demo = analyse_or_demo analyse.named.0.0 demo.named.0.0 (sym analyse.named.0.1 ∙ demo.named.0.1)
 
 -- what is safe for one request is safe for each that the same words ask for
 pub safe_for_words : (holds : Holds) (words : List (List ℕ)) (r : Request) → Asks words r → (AsksForSafety r → IsSafeWhereTold holds (sources_of r)) → IsSafeForWords holds words
@@ -64,6 +82,13 @@ safe_for_words holds words (request.Check c) asks safe (request.Analyse a) too w
 safe_for_words holds words (request.Run r) asks safe (request.Check c) too wants = absurd (no_run words c r too asks)
 safe_for_words holds words (request.Run r) asks safe (request.Run q) too wants = absurd wants
 safe_for_words holds words (request.Run r) asks safe (request.Analyse a) too wants = absurd (no_other words r a asks too)
+safe_for_words holds words (request.Demo n) asks safe (request.Check c) too wants = absurd (no_demo_check words c n too asks)
+safe_for_words holds words (request.Demo n) asks safe (request.Run r) too wants = absurd wants
+safe_for_words holds words (request.Demo n) asks safe (request.Analyse a) too wants = absurd (no_demo_analysis words a n too asks)
+safe_for_words holds words (request.Demo n) asks safe (request.Demo m) too wants = absurd wants
+safe_for_words holds words (request.Check c) asks safe (request.Demo n) too wants = absurd wants
+safe_for_words holds words (request.Run r) asks safe (request.Demo n) too wants = absurd wants
+safe_for_words holds words (request.Analyse a) asks safe (request.Demo n) too wants = absurd wants
 safe_for_words holds words (request.Analyse a) asks safe (request.Check c) too wants = absurd (no_analysis words c a too asks)
 safe_for_words holds words (request.Analyse a) asks safe (request.Run r) too wants = absurd wants
 safe_for_words holds words (request.Analyse a) asks safe (request.Analyse b) too wants =
@@ -75,6 +100,7 @@ pub has_target : (words : List (List ℕ)) (o : Option Request) → IsAsked word
 has_target words None asked = λ name. (λ e. cc, λ t. absurd (asked (request.Analyse t.0) t.1))
 has_target words (Some (request.Check c)) asked = λ name. (λ e. cc, λ t. absurd (no_analysis words c t.0 asked t.1))
 has_target words (Some (request.Run r)) asked = λ name. (λ e. cc, λ t. absurd (no_other words r t.0 asked t.1))
+has_target words (Some (request.Demo n)) asked = λ name. (λ e. cc, λ t. absurd (no_demo_analysis words t.0 n t.1 asked))
 has_target words (Some (request.Analyse a)) asked = λ name. (λ e. (a, asked, e), λ t. sym asked.document ∙ (t.1.document ∙ t.2))
 
 -- where the words ask for a check, all is well only by the verdict that it is
@@ -89,6 +115,7 @@ good_check holds words (Checked (Judged (Alarms count))) c e why asks = cc
 good_check holds words (Checked (Judged (Mistaken refusal))) c e why asks = cc
 good_check holds words (Ran found) c e why asks = absurd (no_run words c why.0 asks why.1)
 good_check holds words (Analysed found) c e why asks = absurd (no_analysis words c why.0 asks why.1)
+good_check holds words (Demo text) c e why asks = absurd (no_demo_check words c why.0 asks why.1)
 
 -- where they ask for an analysis, only by a certificate that was found
 pub good_analysis : (holds : Holds) (words : List (List ℕ)) (x : Answer) (a : Analyse) → status_of x ≡ statuses.Good → IsWhyWords holds words x → AsksAnalyse words a → (f : Findings) × (x ≡ Analysed (results.Found (analysis.Safe f)))
@@ -98,6 +125,7 @@ good_analysis holds words (Refused (refusals.Definitions cause)) a e why asks = 
 good_analysis holds words (Refused (refusals.Misfit fault)) a e why asks = cc
 good_analysis holds words (Checked found) a e why asks = absurd (no_analysis words why.0 a why.1 asks)
 good_analysis holds words (Ran found) a e why asks = absurd (no_other words why.0 a why.1 asks)
+good_analysis holds words (Demo text) a e why asks = absurd (no_demo_analysis words a why.0 asks why.1)
 good_analysis holds words (Analysed results.TooLong) a e why asks = cc
 good_analysis holds words (Analysed (results.Found (analysis.Safe f))) a e why asks = (f, refl)
 good_analysis holds words (Analysed (results.Found (analysis.Alarms f count))) a e why asks = cc

@@ -1,5 +1,6 @@
 pub mod Asked
 pub mod Causes
+pub mod Seeing
 pub mod Hearing
 pub mod Leaving
 pub mod Printing

@@ -9,16 +9,17 @@ use Rattle.mc_find.specs.declared.analysis.analysis.Analysis.TheVariants as anal
 use Rattle.mc_flow.specs.declared.defs.rules.Def.{Def}
 use Rattle.mc_flow.specs.declared.graph.Flow.{Flow}
 use Rattle.mc_kernel.specs.Branches.{Path}
-use Rattle.mc_load.specs.Inputs.Inputs.{AreInputs, Holds}
+use Rattle.mc_load.specs.Inputs.Inputs.{AreInputs, Holds, IsRefused}
 use Rattle.mc_load.specs.Inputs.Texts.{AreDefinitions, IsProgramHere}
 use Rattle.mc_load.specs.Lowered.Graphs.{IsGraphOf}
 use Rattle.mc_load.specs.declared.inputs.reading.Sources.{Sources}
+use Rattle.mc_load.specs.declared.inputs.refusal.Refusal.{Refusal}
 use Rattle.mc_load.specs.declared.inputs.refusal.Refusal.TheVariants as refusals
 use Rattle.mc_outside.specs.Outside.{AddsIfTold}
 use Rattle.mc_outside.specs.declared.outside.FileFault.{FileFault}
 use Rattle.mc_outside.specs.declared.outside.FileFault.TheVariants.{Failed, NoMemory}
 use Rattle.mc_app.specs.Alike.{AreJudgedAlike, IsLikeAnalysis}
-use Rattle.mc_app.specs.Answers.{AsksForSafety, IsWhyWords, sources_of, status_of}
+use Rattle.mc_app.specs.Answers.{AsksForSafety, IsRefusedFor, IsWhyWords, sources_of, status_of}
 use Rattle.mc_app.specs.Blocked.{FaultsComeBy}
 use Rattle.mc_app.specs.Faults.{fault_status}
 use Rattle.mc_app.specs.Printing.{text_of}
@@ -28,14 +29,14 @@ use Rattle.mc_app.specs.Words.Commands.{analyse_app, check_app, run_app}
 use Rattle.mc_app.specs.Words.Words.{Asks}
 use Rattle.mc_app.specs.declared.analysing.Analysed.TheVariants as results
 use Rattle.mc_app.specs.declared.answer.Answer.{Answer}
-use Rattle.mc_app.specs.declared.answer.Answer.TheVariants.{Words, Refused, Checked, Ran, Analysed}
+use Rattle.mc_app.specs.declared.answer.Answer.TheVariants.{Words, Refused, Checked, Ran, Analysed, Demo}
 use Rattle.mc_app.specs.declared.answer.Status.{Status}
 use Rattle.mc_app.specs.declared.answer.Status.TheVariants as statuses
 use Rattle.mc_app.specs.declared.checking.Checked.TheVariants.{TooLong, Judged}
 use Rattle.mc_app.specs.declared.words.words.Request.{Request}
 use Rattle.mc_app.specs.declared.words.words.Request.TheVariants as request
 use Rattle.mc_app.proofs.Alike.{Given, Laws, given, never, one_defs, one_unit}
-use Rattle.mc_app.proofs.Asked.{no_analysis, no_other, no_run, one_word}
+use Rattle.mc_app.proofs.Asked.{no_analysis, no_demo_analysis, no_demo_check, no_demo_run, no_other, no_run, one_word}
 
 -- ---- the same words name the same files
 
@@ -61,11 +62,25 @@ same_sources words (request.Run r) (request.Run q) asks too = record {
 same_sources words (request.Run r) (request.Analyse a) asks too = absurd (no_other words r a asks too)
 same_sources words (request.Analyse a) (request.Check c) asks too = absurd (no_analysis words c a too asks)
 same_sources words (request.Analyse a) (request.Run r) asks too = absurd (no_other words r a too asks)
+same_sources words (request.Check c) (request.Demo n) asks too = absurd (no_demo_check words c n asks too)
+same_sources words (request.Run r) (request.Demo n) asks too = absurd (no_demo_run words r n asks too)
+same_sources words (request.Analyse a) (request.Demo n) asks too = absurd (no_demo_analysis words a n asks too)
+same_sources words (request.Demo n) (request.Check c) asks too = absurd (no_demo_check words c n too asks)
+same_sources words (request.Demo n) (request.Run r) asks too = absurd (no_demo_run words r n too asks)
+same_sources words (request.Demo n) (request.Analyse a) asks too = absurd (no_demo_analysis words a n too asks)
+same_sources words (request.Demo n) (request.Demo m) asks too = record { program = refl; definitions = refl; start = refl }
 same_sources words (request.Analyse a) (request.Analyse b) asks too = record {
   program = one_word analyse_app words _ a.program.now b.program.now asks.program too.program;
   definitions = one_word analyse_app words _ a.definitions.now b.definitions.now asks.definitions too.definitions;
   start = one_word analyse_app words _ a.start.now b.start.now asks.start too.start;
 }
+
+-- what is refused for a request is refused of the files that it names
+sources_refused : (holds : Holds) (r : Request) (refusal : Refusal) → IsRefusedFor holds r refusal → IsRefused holds (sources_of r) refusal
+sources_refused holds (request.Check c) refusal refused = refused
+sources_refused holds (request.Run r) refusal refused = refused
+sources_refused holds (request.Analyse a) refusal refused = refused
+sources_refused holds (request.Demo n) refusal refused = absurd refused
 
 -- ---- alarms
 
@@ -116,16 +131,20 @@ alarms_tell holds words (Checked (Judged (Alarms count))) old new why adds e (re
           (judged.flow, chain.0, chain.1, told_by d.start.now c.start.now unit defs judged.flow chain.0 count same.start judged.graph chain.2 found.3 chain.3),
     )
 alarms_tell holds words (Checked (Judged (Alarms count))) old new why adds e (request.Run r) asks wants text h definitions k = absurd wants
+alarms_tell holds words (Checked (Judged (Alarms count))) old new why adds e (request.Demo n) asks wants text h definitions k = absurd wants
 alarms_tell holds words (Checked (Judged (Alarms count))) old new why adds e (request.Analyse a) asks wants text h definitions k = absurd (no_analysis words why.0 a why.1 asks)
 alarms_tell holds words (Ran found) old new why adds e (request.Check c) asks wants text h definitions k = absurd (no_run words c why.0 asks why.1)
 alarms_tell holds words (Ran found) old new why adds e (request.Run r) asks wants text h definitions k = absurd wants
+alarms_tell holds words (Ran found) old new why adds e (request.Demo n) asks wants text h definitions k = absurd wants
 alarms_tell holds words (Ran found) old new why adds e (request.Analyse a) asks wants text h definitions k = absurd (no_other words why.0 a why.1 asks)
+alarms_tell holds words (Demo printed) old new why adds e r asks wants text h definitions k = cc
 alarms_tell holds words (Analysed results.TooLong) old new why adds e r asks wants text h definitions k = cc
 alarms_tell holds words (Analysed (results.Found (analysis.Safe f))) old new why adds e r asks wants text h definitions k = cc
 alarms_tell holds words (Analysed (results.Found (analysis.Paths document))) old new why adds e r asks wants text h definitions k = cc
 alarms_tell holds words (Analysed (results.Found analysis.Unknown)) old new why adds e r asks wants text h definitions k = cc
 alarms_tell holds words (Analysed (results.Found (analysis.Alarms f count))) old new why adds e (request.Check c) asks wants text h definitions k = absurd (no_analysis words c why.0 asks why.1)
 alarms_tell holds words (Analysed (results.Found (analysis.Alarms f count))) old new why adds e (request.Run r) asks wants text h definitions k = absurd wants
+alarms_tell holds words (Analysed (results.Found (analysis.Alarms f count))) old new why adds e (request.Demo n) asks wants text h definitions k = absurd wants
 alarms_tell holds words (Analysed (results.Found (analysis.Alarms f count))) old new why adds e (request.Analyse a) asks wants text h definitions k =
     let b = why.0 in
     let unit = why.2.0 in
@@ -186,7 +205,7 @@ module _ (laws : Laws) (holds : Holds) (words : List (List ℕ)) (r : Request) (
   ends_by (Refused refusal) why =
       let same = same_sources words why.0 r why.1 ready.asks in
       absurd (never laws start ready.text ready.definitions unit defs here holds (sources_of why.0) (sources_of r).program.now (sources_of r).definitions.now same.program same.definitions same.start ready.is_text
-      ready.are_definitions refusal why.2)
+      ready.are_definitions refusal (sources_refused holds why.0 refusal why.2))
   ends_by (Checked found) why =
       let q = request.Check why.0 in
       (q, why.1, (found, moved (λ u ds. Rattle.mc_app.specs.Checks.IsWhyChecked holds why.0 u ds found) why.2.0 why.2.1 (same_inputs q why.1 why.2.0 why.2.1 why.2.2) why.2.3, refl))
@@ -196,6 +215,7 @@ module _ (laws : Laws) (holds : Holds) (words : List (List ℕ)) (r : Request) (
   ends_by (Analysed found) why =
       let q = request.Analyse why.0 in
       (q, why.1, (found, moved (λ u ds. Rattle.mc_app.specs.Analyses.IsWhyAnalysed why.0 u ds found) why.2.0 why.2.1 (same_inputs q why.1 why.2.0 why.2.1 why.2.2) why.2.3, refl))
+  ends_by (Demo text) why = (request.Demo why.0, why.1, refl)
 
 pub answers_complete : Laws → (holds : Holds) (words : List (List ℕ)) (a : Answer) → IsWhyWords holds words a → IsComplete holds words (status_of a)
 answers_complete laws holds words a why r unit defs ready = inr (inr (ends_by laws holds words r unit defs ready a why))

@@ -1,5 +1,6 @@
 -- Why a call of the program ends as it does.
-use Rattle.std.specs.Prelude.{◌≡◌, ◌++◌, ◌⊎◌, ◌↔◌, ℕ, List, Option, None, Some, Result, Ok, Err, option_map, take, ⊤}
+use Rattle.std.specs.Prelude.{◌≡◌, ◌++◌, ◌⊎◌, ◌↔◌, ℕ, List, [], Option, None, Some, Result, Ok, Err, option_map, take, ⊤}
+use Rattle.std.specs.Borrow.{Bor}
 use Rattle.mc_c_syntax.specs.Ast.Trees.{UnitTree}
 use Rattle.mc_flow.specs.declared.defs.rules.Def.{Def}
 use Rattle.mc_load.specs.Inputs.Inputs.{AreInputs, Holds, IsRefused}
@@ -16,14 +17,15 @@ use Rattle.mc_app.specs.declared.words.words.Check.{Check}
 use Rattle.mc_app.specs.declared.words.words.Request.{Request}
 use Rattle.mc_app.specs.declared.words.words.Request.TheVariants as request
 use Rattle.mc_app.specs.declared.words.words.Run.{Run}
-use Rattle.mc_app.specs.Words.Words.{Asks, AsksAnalyse, AsksCheck, AsksRun}
+use Rattle.mc_app.specs.Demo.Demo.{IsDemo}
+use Rattle.mc_app.specs.Words.Words.{Asks, AsksAnalyse, AsksCheck, AsksDemo, AsksRun}
 use Rattle.mc_outside.specs.Saving.Saving.{IsFront, WhereAnyTold}
 use Rattle.mc_app.specs.Analyses.{IsTarget, IsWhyAnalysed}
 use Rattle.mc_app.specs.Checks.{IsSafeWhereTold, IsWhyChecked}
 use Rattle.mc_app.specs.Printing.{text_of}
 use Rattle.mc_app.specs.Runs.{IsWhyRan}
 use Rattle.mc_app.specs.declared.answer.Answer.{Answer}
-use Rattle.mc_app.specs.declared.answer.Answer.TheVariants.{Words, Refused, Checked, Ran, Analysed}
+use Rattle.mc_app.specs.declared.answer.Answer.TheVariants.{Words, Refused, Checked, Ran, Analysed, Demo}
 use Rattle.mc_app.specs.declared.analysing.Analysed.{Analysed as Results}
 use Rattle.mc_app.specs.declared.analysing.Analysed.TheVariants as results
 use Rattle.mc_app.specs.declared.answer.Status.{Status}
@@ -35,33 +37,48 @@ use Rattle.mc_app.specs.declared.running.Ran.TheVariants.{TooBig, To}
 
 -- ---- causes
 
--- the files of the program and its definitions, which a command names before its own
+-- no file
+abbrev pub no_file : Bor (List ℕ)
+no_file = record { ref_ptr = (0, 0); now = [] }
+
+-- the files of the program and its definitions, which a command names before its own; `demo` names none
 abbrev pub sources_of : Request → Sources
 sources_of (request.Check c) = record { program = c.program; definitions = c.definitions; start = c.start }
 sources_of (request.Run r) = record { program = r.program; definitions = r.definitions; start = r.start }
 sources_of (request.Analyse a) = record { program = a.program; definitions = a.definitions; start = a.start }
+sources_of (request.Demo n) = record { program = no_file; definitions = no_file; start = no_file }
+
+-- the files that a request names are refused; where it names none, nothing is
+abbrev pub IsRefusedFor : Holds → Request → Refusal → Type 0
+IsRefusedFor holds (request.Check c) refusal = IsRefused holds (sources_of (request.Check c)) refusal
+IsRefusedFor holds (request.Run r) refusal = IsRefused holds (sources_of (request.Run r)) refusal
+IsRefusedFor holds (request.Analyse a) refusal = IsRefused holds (sources_of (request.Analyse a)) refusal
+IsRefusedFor holds (request.Demo n) refusal = ⊥
 
 -- the files are a program with its definitions, which it fits, and of these this is so
 abbrev pub IsOver : Holds → Sources → (UnitTree → List Def → Type 0) → Type 0
 IsOver holds sources IsSo = (unit : UnitTree) × (defs : List Def) × AreInputs holds sources unit defs × IsSo unit defs
 
 -- why this is answered for these words: they ask for nothing; the program or its definitions are refused, with their cause;
--- or both are read and fit, and the command has its own cause
+-- or both are read and fit, and the command has its own cause;
+-- or they ask for programs that are made from a number
 abbrev pub IsWhyWords : Holds → List (List ℕ) → Answer → Type 0
 IsWhyWords holds words Words = (r : Request) → Asks words r → ⊥
-IsWhyWords holds words (Refused refusal) = (r : Request) × Asks words r × IsRefused holds (sources_of r) refusal
+IsWhyWords holds words (Refused refusal) = (r : Request) × Asks words r × IsRefusedFor holds r refusal
 IsWhyWords holds words (Checked found) =
     (c : Check) × AsksCheck words c × IsOver holds (sources_of (request.Check c)) (λ unit defs. IsWhyChecked holds c unit defs found)
 IsWhyWords holds words (Ran found) =
     (r : Run) × AsksRun words r × IsOver holds (sources_of (request.Run r)) (λ unit defs. IsWhyRan holds r unit defs found)
 IsWhyWords holds words (Analysed found) =
     (a : Analyse) × AsksAnalyse words a × IsOver holds (sources_of (request.Analyse a)) (λ unit defs. IsWhyAnalysed a unit defs found)
+IsWhyWords holds words (Demo text) = (n : ℕ) × AsksDemo words n × IsDemo n text.items
 
 -- a request whose status 0 means that no run has a fault
 abbrev pub AsksForSafety : Request → Type 0
 AsksForSafety (request.Check c) = Unit {0}
 AsksForSafety (request.Run r) = ⊥
 AsksForSafety (request.Analyse a) = Unit {0}
+AsksForSafety (request.Demo n) = ⊥
 
 -- ---- statuses
 
@@ -99,6 +116,7 @@ status_of (Refused refusal) = refusal_status refusal
 status_of (Checked found) = checked_status found
 status_of (Ran found) = ran_status found
 status_of (Analysed found) = analysed_status found
+status_of (Demo text) = statuses.Good
 
 -- the number of a status
 abbrev pub code_of : Status → ℕ
@@ -128,6 +146,7 @@ document_of (Refused refusal) = None
 document_of (Checked found) = None
 document_of (Ran found) = None
 document_of (Analysed found) = analysed_document found
+document_of (Demo text) = None
 
 -- the words ask for this request, or for none
 abbrev pub IsAsked : List (List ℕ) → Option Request → Type 0
@@ -140,6 +159,7 @@ target_of None = None
 target_of (Some (request.Check c)) = None
 target_of (Some (request.Run r)) = None
 target_of (Some (request.Analyse a)) = option_map (λ s. s.now) a.document
+target_of (Some (request.Demo n)) = None
 
 -- this is the file that the words name for the document, if they name one
 abbrev pub HasTarget : List (List ℕ) → Option (List ℕ) → Type 0

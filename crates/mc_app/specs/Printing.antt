@@ -17,7 +17,7 @@ use Rattle.mc_find.specs.declared.analysis.analysis.Analysis.TheVariants as anal
 use Rattle.mc_app.specs.declared.analysing.Analysed.{Analysed as Results}
 use Rattle.mc_app.specs.declared.analysing.Analysed.TheVariants as results
 use Rattle.mc_app.specs.declared.answer.Answer.{Answer}
-use Rattle.mc_app.specs.declared.answer.Answer.TheVariants.{Words, Refused, Checked, Ran, Analysed}
+use Rattle.mc_app.specs.declared.answer.Answer.TheVariants.{Words, Refused, Checked, Ran, Analysed, Demo}
 use Rattle.mc_app.specs.declared.checking.Checked.{Checked as Found}
 use Rattle.mc_app.specs.declared.checking.Checked.TheVariants as found
 use Rattle.mc_app.specs.declared.running.Ran.{Ran as Came}
@@ -96,3 +96,4 @@ text_of (Refused refusal) = line (refusal_text refusal)
 text_of (Checked found) = line (checked_text found)
 text_of (Ran found) = line (ran_text found)
 text_of (Analysed found) = analysed_text found
+text_of (Demo text) = text.items

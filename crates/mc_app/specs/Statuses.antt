@@ -45,6 +45,7 @@ AlarmsMean holds old new unit defs (request.Check c) =
     WhereTold (holds c.document.now)
     (λ document. (flow : Flow) × (stuck : List Path) × IsChain flow defs document stuck × TellsFaults c.start.now unit defs stuck flow)
 AlarmsMean holds old new unit defs (request.Run r) = Unit {0}
+AlarmsMean holds old new unit defs (request.Demo n) = Unit {0}
 AlarmsMean holds old new unit defs (request.Analyse a) =
     (flow : Flow) × (heads : List WrittenHead) × (alarms : List MarkedAlarm) × (report : List ℕ)
     × IsChainReport flow defs heads alarms report × AddsIfTold old report new (Ok tt)
@@ -71,10 +72,11 @@ pub record IsReady (holds : Holds) (words : List (List ℕ)) (r : Request) (unit
   pub inputs : AreInputs holds (sources_of r) unit defs
 
 -- a command whose program and definitions are these ends with this status: a check by its document alone, a run by its script and
--- its steps, an analysis by what it found
+-- its steps, an analysis by what it found; `demo` ends well
 abbrev pub EndsBy : Holds → Request → UnitTree → List Def → Status → Type 0
 EndsBy holds (request.Check c) unit defs status =
     (found : Checked) × IsWhyChecked holds c unit defs found × (status ≡ checked_status found)
+EndsBy holds (request.Demo n) unit defs status = status ≡ Good
 EndsBy holds (request.Run r) unit defs status = (found : Ran) × IsWhyRan holds r unit defs found × (status ≡ ran_status found)
 EndsBy holds (request.Analyse a) unit defs status =
     (found : Analysed) × IsWhyAnalysed a unit defs found × (status ≡ analysed_status found)

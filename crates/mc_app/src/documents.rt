@@ -12,7 +12,7 @@ use mc_kernel::oracle::judges_are_there;
 use mc_kernel::{certificates_are_safe, last_pass_finds_faults};
 use mc_load::inputs::{PIECE, buffer};
 use mc_outside::{FileFault, Files};
-use std::alloc::Global;
+use std::alloc::{AllocError, Global};
 
 // Reads the next piece of a document of this size, which the judge hears.
 fn next_heard<F: Files>(
@@ -92,6 +92,24 @@ pub fn verdict_in<F: Files>(
     let mut buf = buffer(alloc, PIECE)?;
     let mut judge = Judge::new(alloc, flow, defs);
     hear(files, name, size, &mut buf, &mut judge)?;
+    let verdict = judge.finish()?;
+    Ok(verdict)
+}
+
+/// The verdict on a document.
+pub fn verdict_on(
+    alloc: Global,
+    document: &[u8],
+    flow: &Flow,
+    defs: &Defs,
+) -> Result<Verdict, AllocError>
+    requires { IsValid flow.now defs.now }
+    ensures { IfOk result (IsVerdictOn flow.now defs.now document.now) }
+{
+    // For the proof alone: there is a right judge.
+    judges_are_there();
+    let mut judge = Judge::new(alloc, flow, defs);
+    judge.feed(document)?;
     let verdict = judge.finish()?;
     Ok(verdict)
 }

@@ -6,11 +6,13 @@ ghost use Rattle.mc_app.specs.Printing.{text_of};
 ghost use Rattle.mc_app.specs.Alike.{IsLikeAnalysis};
 ghost use Rattle.mc_app.specs.Answers.{AsksForSafety, EndsWith, HasTarget, IsSafeForWords, IsWhyWords, Keeps, OnlyTargetChanges, PrintsPart, TargetHoldsPart, document_of, sources_of, status_of, target_of};
 ghost use Rattle.mc_app.specs.Checks.{IsSafeWhereTold};
+ghost use Rattle.mc_app.specs.Demo.Ending.{EndsWellForDemo};
 ghost use Rattle.mc_app.specs.Faults.{fault_status};
 ghost use Rattle.mc_app.specs.Statuses.{AlarmsTell, IsComplete, IsDecided};
 
 use crate::analysing::answer_analysis;
 use crate::checking::answer_check;
+use crate::demo::demo_text;
 use crate::laws::{
     answers_are_complete, closed_programs_are_decided, documents_are_judged_alike,
 };
@@ -53,6 +55,10 @@ fn answered<F: Files>(
             let answer = answer_analysis(alloc, files, names)?;
             Ok(answer)
         }
+        Request::Demo(number) => {
+            let text = demo_text(alloc, number)?;
+            Ok(Answer::Demo(text))
+        }
     }
 }
 
@@ -64,6 +70,7 @@ fn target<'w>(request: Request<'w>) -> Option<&'w str>
         Request::Check(_) => None,
         Request::Run(_) => None,
         Request::Analyse(names) => names.document,
+        Request::Demo(_) => None,
     }
 }
 
@@ -124,7 +131,8 @@ fn status_of(fault: FileFault) -> Status
     }
 }
 
-/// Does what the words ask for: checks a document, runs a program on a script, or analyses a program. The answer is printed.
+/// Does what the words ask for: checks a document, runs a program on a script, analyses a program, or analyses programs that it makes.
+/// The answer is printed.
 pub fn memcad<F: Files, K: Sink>(
     alloc: Global,
     words: &[String],
@@ -140,6 +148,8 @@ pub fn memcad<F: Files, K: Sink>(
     ensures complete { IsComplete (F.holds files.old) (map string_bytes words.now) result }
     // An analysis of a closed program ends with 0 where it is safe, and with 1 where it is not.
     ensures decided { IsDecided (F.holds files.old) (map string_bytes words.now) result }
+    // Where the words ask for programs that are made, all is well.
+    ensures demo { EndsWellForDemo (map string_bytes words.now) result }
     // A check of the document that an analysis of the same program has left ends like it.
     ensures alike { IsLikeAnalysis (F.holds files.old) (map string_bytes words.now) (K.written out.old) (K.written out.new) result }
     // Each answer has its cause, leaves its document and prints its text. A call without an answer ran out of memory, or the

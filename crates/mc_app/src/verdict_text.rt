@@ -65,7 +65,8 @@ fn print_mistake(alloc: Global, out: &mut Vec<u8>, refusal: &Refusal) -> Result<
     Ok(())
 }
 
-fn print_verdict(alloc: Global, out: &mut Vec<u8>, verdict: &Verdict) -> Result<(), AllocError>
+/// Adds a verdict.
+pub fn print_verdict(alloc: Global, out: &mut Vec<u8>, verdict: &Verdict) -> Result<(), AllocError>
     ensures { OnOk result (out.new.items ≡ out.old.items ++ verdict_text verdict.now) }
 {
     match verdict {

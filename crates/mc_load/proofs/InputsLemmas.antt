@@ -1,3 +1,4 @@
 pub mod Causes
 pub mod Joining
 pub mod Picking
+pub mod Pairs

@@ -1,3 +1,4 @@
 pub mod Texts
 pub mod Inputs
 pub mod Printing
+pub mod Pairs

@@ -4,7 +4,7 @@
 //! Stands on `mc_outside`, `mc_c_parse`, `mc_def_read`, `mc_resolve` and `mc_lower`; called by `mc_app`.
 //!
 //! - `read`: a program from its text, or the first thing that is wrong with it.
-//! - `inputs`: the program and the definitions that a command names, read and bound.
+//! - `inputs`: the program and the definitions that a command names, or those of two texts, read and bound.
 //! - `lowered`: the flow graph of a program that was read, with its definitions.
 #![tactic(auto)]
 

@@ -8,8 +8,8 @@ use Rattle.mc_app.specs.declared.words.words.Request.{Request}
 use Rattle.mc_app.specs.declared.words.words.Request.TheVariants as request
 use Rattle.mc_app.specs.declared.words.words.Analyse.{Analyse}
 use Rattle.mc_app.specs.declared.words.words.Run.{Run}
-use Rattle.mc_app.specs.Words.Commands.{analyse_app, check_app, run_app}
-use Rattle.mc_app.specs.Words.Words.{Asks, AsksAnalyse, AsksCheck, AsksRun}
+use Rattle.mc_app.specs.Words.Commands.{analyse_app, check_app, demo_app, run_app}
+use Rattle.mc_app.specs.Words.Words.{Asks, AsksAnalyse, AsksCheck, AsksDemo, AsksRun}
 
 -- the words begin with this one
 abbrev pub BeginsWith : List ℕ → List (List ℕ) → Type 0
@@ -33,29 +33,50 @@ check_or_analyse e = absurd (grind (arith, e))
 run_or_analyse : codes "run" ≡ codes "analyse" → ⊥
 run_or_analyse e = absurd (grind (arith, e))
 
+check_or_demo : codes "check" ≡ codes "demo" → ⊥
+check_or_demo e = absurd (grind (arith, e))
+
+run_or_demo : codes "run" ≡ codes "demo" → ⊥
+run_or_demo e = absurd (grind (arith, e))
+
+analyse_or_demo : codes "analyse" ≡ codes "demo" → ⊥
+analyse_or_demo e = absurd (grind (arith, e))
+
 -- a `check` that is none, and words that begin with `check`
 pub no_check : (words : List (List ℕ)) → BeginsWith (codes "check") words → ((c : Check) → AsksCheck words c → ⊥) → (a : Request) → Asks words a → ⊥
 no_check words begins none (request.Check c) asks = none c asks
 no_check words begins none (request.Run c) asks = check_or_run (one_name words _ _ begins asks.named.0)
 no_check words begins none (request.Analyse c) asks = check_or_analyse (one_name words _ _ begins asks.named.0)
+no_check words begins none (request.Demo n) asks = check_or_demo (one_name words _ _ begins asks.named.0)
 
 -- a `run` that is none, and words that begin with `run`
 pub no_run : (words : List (List ℕ)) → BeginsWith (codes "run") words → ((c : Run) → AsksRun words c → ⊥) → (a : Request) → Asks words a → ⊥
 no_run words begins none (request.Check c) asks = check_or_run (one_name words _ _ asks.named.0 begins)
 no_run words begins none (request.Run c) asks = none c asks
 no_run words begins none (request.Analyse c) asks = run_or_analyse (one_name words _ _ begins asks.named.0)
+no_run words begins none (request.Demo n) asks = run_or_demo (one_name words _ _ begins asks.named.0)
 
 -- an `analyse` that is none, and words that begin with `analyse`
 pub no_analyse : (words : List (List ℕ)) → BeginsWith (codes "analyse") words → ((c : Analyse) → AsksAnalyse words c → ⊥) → (a : Request) → Asks words a → ⊥
 no_analyse words begins none (request.Check c) asks = check_or_analyse (one_name words _ _ asks.named.0 begins)
 no_analyse words begins none (request.Run c) asks = run_or_analyse (one_name words _ _ asks.named.0 begins)
 no_analyse words begins none (request.Analyse c) asks = none c asks
+no_analyse words begins none (request.Demo n) asks = analyse_or_demo (one_name words _ _ begins asks.named.0)
+
+-- a `demo` that is none, and words that begin with `demo`
+pub no_demo : (words : List (List ℕ)) → BeginsWith (codes "demo") words → ((n : ℕ) → AsksDemo words n → ⊥) → (a : Request) → Asks words a → ⊥
+no_demo words begins none (request.Check c) asks = check_or_demo (one_name words _ _ asks.named.0 begins)
+no_demo words begins none (request.Run c) asks = run_or_demo (one_name words _ _ asks.named.0 begins)
+no_demo words begins none (request.Analyse c) asks = analyse_or_demo (one_name words _ _ asks.named.0 begins)
+no_demo words begins none (request.Demo n) asks = none n asks
 
 -- words that begin with none of the commands
-pub no_other : (words : List (List ℕ)) → (BeginsWith (codes "check") words → ⊥) → (BeginsWith (codes "run") words → ⊥) → (BeginsWith (codes "analyse") words → ⊥) → (a : Request) → Asks words a → ⊥
-no_other words check run analyse (request.Check c) asks = check asks.named.0
-no_other words check run analyse (request.Run c) asks = run asks.named.0
-no_other words check run analyse (request.Analyse c) asks = analyse asks.named.0
+pub no_other : (words : List (List ℕ)) → (BeginsWith (codes "check") words → ⊥) → (BeginsWith (codes "run") words → ⊥) → (BeginsWith (codes "analyse") words → ⊥) → (BeginsWith (codes "demo") words → ⊥)
+    → (a : Request) → Asks words a → ⊥
+no_other words check run analyse demo (request.Check c) asks = check asks.named.0
+no_other words check run analyse demo (request.Run c) asks = run asks.named.0
+no_other words check run analyse demo (request.Analyse c) asks = analyse asks.named.0
+no_other words check run analyse demo (request.Demo n) asks = demo asks.named.0
 
 pub check_at_fault : (words : List (List ℕ)) → (fault_of check_app words ≡ [] → ⊥) → (c : Check) → AsksCheck words c → ⊥
 check_at_fault words bad c asks = bad asks.named.1
@@ -65,6 +86,9 @@ run_at_fault words bad c asks = bad asks.named.1
 
 pub analyse_at_fault : (words : List (List ℕ)) → (fault_of analyse_app words ≡ [] → ⊥) → (c : Analyse) → AsksAnalyse words c → ⊥
 analyse_at_fault words bad c asks = bad asks.named.1
+
+pub demo_at_fault : (words : List (List ℕ)) → (fault_of demo_app words ≡ [] → ⊥) → (n : ℕ) → AsksDemo words n → ⊥
+demo_at_fault words bad n asks = bad asks.named.1
 
 -- words of which this is the first one
 pub first_word : {A : Type 0} (text : A → List ℕ) (words : List A) (x : A) (name : List ℕ) → 1 ≤ length words → x ≡ get_or words 0 x → text x ≡ name → BeginsWith name (map text words)

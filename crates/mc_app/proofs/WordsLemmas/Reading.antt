@@ -6,7 +6,7 @@ use Rattle.clap.specs.Words.{App, ReadsOne, first_of, first_value, matches_of, o
 use Rattle.clap.specs.Walk.{one_of, rows_of}
 use Rattle.clap.specs.declared.parser.matches.Found.{Found}
 use Rattle.clap.proofs.WalkLemmas.{first_value-rows, one_text-rows}
-use Rattle.mc_app.specs.Words.Words.{Reads, ReadsNumber, ReadsPerhaps}
+use Rattle.mc_app.specs.Words.Words.{Reads, ReadsPerhaps, ReadsUnsigned}
 
 same_word : (f : Found) (app : App) (words : List (List ℕ)) (id : List ℕ) → rows_of f ≡ matches_of app words → first_value f id ≡ first_of id (matches_of app words)
 same_word f app words id rows = first_value-rows f id ∙ ap (first_of id) rows
@@ -26,18 +26,18 @@ same_text : (f : Found) (app : App) (words : List (List ℕ)) (id : List ℕ) �
 same_text f app words id rows = one_text-rows f id ∙ ap (one_of id) rows
 
 -- a number that is read is the one of its name, and where none is read there is none
-pub number_read : (E : Type 0) (Gives : List ℕ → Result ℕ E → Type 0) (f : Found) (app : App) (words : List (List ℕ)) (id : List ℕ) (r : Option ℕ) → rows_of f ≡ matches_of app words
+pub number_read : (bits : ℕ) (E : Type 0) (Gives : List ℕ → Result ℕ E → Type 0) (f : Found) (app : App) (words : List (List ℕ)) (id : List ℕ) (r : Option ℕ) → rows_of f ≡ matches_of app words
     → (one_text f id ≡ None → r ≡ None) → ((t : List ℕ) → one_text f id ≡ Some t → ReadsOne Gives t r)
-    → ((bs : List ℕ) (q : Result ℕ E) → Gives bs q → ParsesUnsigned 64 10 bs q)
-    → MatchOption r ((n : ℕ) → ReadsNumber app words id n → ⊥) (ReadsNumber app words id)
-number_read E Gives f app words id None rows none value parses =
+    → ((bs : List ℕ) (q : Result ℕ E) → Gives bs q → ParsesUnsigned bits 10 bs q)
+    → MatchOption r ((n : ℕ) → ReadsUnsigned bits app words id n → ⊥) (ReadsUnsigned bits app words id)
+number_read bits E Gives f app words id None rows none value parses =
     λ n reads.
     let read = value reads.0 (same_text f app words id rows ∙ reads.1) in
     let failed = parses reads.0 (Err read.0) read.1 in
     failed reads.2.0
-number_read E Gives f app words id (Some n) rows none value parses = at (one_text f id) refl
+number_read bits E Gives f app words id (Some n) rows none value parses = at (one_text f id) refl
   where
-    at : (t : Option (List ℕ)) → one_text f id ≡ t → ReadsNumber app words id n
+    at : (t : Option (List ℕ)) → one_text f id ≡ t → ReadsUnsigned bits app words id n
     at None e = let two : Some n ≡ None = none e in cc
     at (Some t) e = (t, sym (same_text f app words id rows) ∙ e, parses t (Ok n) (value t e))
 

@@ -15,6 +15,10 @@ option id default = record (new_rule id) { long = Some id; defaults = default �
 abbrev pub number_option : List ℕ → List ℕ → ℕ → Rule
 number_option id default most = record (option id default) { parser = Some (vp.Unsigned 1 most) }
 
+-- a number that has to be there, up to another
+abbrev pub number_place : List ℕ → ℕ → Rule
+number_place id most = record (place id) { parser = Some (vp.Unsigned 0 most) }
+
 -- `--id VALUE`, which may be left out
 abbrev pub free_option : List ℕ → Rule
 free_option id = record (new_rule id) { long = Some id }
@@ -44,3 +48,7 @@ unfoldable pub analyse_app : App
 analyse_app =
     with_rule (with_rule (with_rule (with_rule (two_files (codes "analyse")) entry_option)
     (number_option (codes "rounds") (codes "30") 100)) (number_option (codes "disjuncts") (codes "16") 64)) (free_option (codes "document"))
+
+-- `demo NUMBER`
+unfoldable pub demo_app : App
+demo_app = with_rule (new_app (codes "demo")) (number_place (codes "number") 4294967295)

@@ -9,7 +9,7 @@ use Rattle.mc_app.specs.declared.words.words.Request.TheVariants as request
 use Rattle.mc_app.specs.declared.words.words.Check.{Check}
 use Rattle.mc_app.specs.declared.words.words.Run.{Run}
 use Rattle.mc_app.specs.declared.words.words.Analyse.{Analyse}
-use Rattle.mc_app.specs.Words.Commands.{analyse_app, check_app, run_app}
+use Rattle.mc_app.specs.Words.Commands.{analyse_app, check_app, demo_app, run_app}
 
 -- the words begin with this one, and the command of that name finds no fault in them
 abbrev pub IsFor : List ℕ → App → List (List ℕ) → Type 0
@@ -23,10 +23,18 @@ Reads app words id word = first_of id (matches_of app words) ≡ Some word
 abbrev pub ReadsPerhaps : App → List (List ℕ) → List ℕ → Option (List ℕ) → Type 0
 ReadsPerhaps app words id word = first_of id (matches_of app words) ≡ word
 
+-- the number of so many bits that a command reads at one of its names
+abbrev pub ReadsUnsigned : (bits : ℕ) → App → List (List ℕ) → List ℕ → ℕ → Type 0
+ReadsUnsigned bits app words id n =
+    (number : List ℕ) × (one_of id (matches_of app words) ≡ Some number) × ParsesUnsigned {E = Unit {0}} bits 10 number (Ok n)
+
 -- the number that a command reads at one of its names
 abbrev pub ReadsNumber : App → List (List ℕ) → List ℕ → ℕ → Type 0
-ReadsNumber app words id n =
-    (number : List ℕ) × (one_of id (matches_of app words) ≡ Some number) × ParsesUnsigned {E = Unit {0}} 64 10 number (Ok n)
+ReadsNumber = ReadsUnsigned 64
+
+-- the number below 2^32 that a command reads at one of its names
+abbrev pub ReadsSmallNumber : App → List (List ℕ) → List ℕ → ℕ → Type 0
+ReadsSmallNumber = ReadsUnsigned 32
 
 -- the words are a `check` with these files and this entry
 pub record AsksCheck (words : List (List ℕ)) (c : Check) : Type 0 where
@@ -55,8 +63,14 @@ pub record AsksAnalyse (words : List (List ℕ)) (c : Analyse) : Type 0 where
   pub disjuncts : ReadsNumber analyse_app words (codes "disjuncts") c.disjuncts
   pub document : ReadsPerhaps analyse_app words (codes "document") (option_map (λ s. s.now) c.document)
 
+-- the words are a `demo` of this number
+pub record AsksDemo (words : List (List ℕ)) (n : ℕ) : Type 0 where
+  pub named : IsFor (codes "demo") demo_app words
+  pub number : ReadsSmallNumber demo_app words (codes "number") n
+
 -- the words ask for this
 abbrev pub Asks : List (List ℕ) → Request → Type 0
 Asks words (request.Check c) = AsksCheck words c
 Asks words (request.Run c) = AsksRun words c
 Asks words (request.Analyse c) = AsksAnalyse words c
+Asks words (request.Demo n) = AsksDemo words n

@@ -10,7 +10,7 @@ const ABOUT: &str =
     "Shows that no pointer in a C program goes wrong, whatever its inputs, or where one may";
 
 const AFTER: &str = "Standard output has the answer alone, and the status says which one it is:
-  0  safe; of run: it ended, or stopped at an assume
+  0  safe; of run: it ended, or stopped at an assume; of demo: always
   1  alarms, it may go wrong there; of run: it went wrong
   2  the words are refused, or ask for help
   3  the program is refused; of analyse also: neither a proof nor alarms were found
@@ -37,7 +37,8 @@ pub fn program<'w>(alloc: Global) -> Result<Command<'w>, AllocError> {
         .subcommand_required(true)
         .subcommand(check(alloc)?)?
         .subcommand(run(alloc)?)?
-        .subcommand(analyse(alloc)?)?;
+        .subcommand(analyse(alloc)?)?
+        .subcommand(demo(alloc)?)?;
     Ok(program)
 }
 
@@ -101,7 +102,20 @@ fn analyse<'w>(alloc: Global) -> Result<Command<'w>, AllocError> {
     )
 }
 
-// The texts of the files that every command reads.
+fn demo<'w>(alloc: Global) -> Result<Command<'w>, AllocError> {
+    let command = commands::demo(alloc)?.about(
+        "Make 64 programs from a number, analyse them, and check their documents",
+    );
+    let command = described(
+        command,
+        "number",
+        "NUMBER",
+        "The number that the programs come of, up to 4294967295",
+    )?;
+    Ok(command.after_help(FORMATS))
+}
+
+// The texts of the files that every command but `demo` reads.
 fn with_files(command: Command<'_>) -> Result<Command<'_>, AllocError> {
     let command = described(
         command,

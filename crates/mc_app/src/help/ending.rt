@@ -23,7 +23,9 @@ pub fn warn<R: Eprint>(rt: &R, alloc: Global, words: &[String]) -> io::Result<()
     let Some(request) = asked(alloc, words)? else {
         return Ok(());
     };
-    let files = files_of(request);
+    let Some(files) = files_of(request) else {
+        return Ok(());
+    };
     let Some(target) = files.target else {
         return Ok(());
     };
@@ -76,6 +78,9 @@ fn explain_device<R: Files + Eprint>(
     match asked(alloc, words)? {
         None => explain_words(rt, alloc, words),
         Some(_) if output_failed => Ok(()),
-        Some(request) => explain_files(rt, files_of(request)),
+        Some(request) => match files_of(request) {
+            Some(files) => explain_files(rt, files),
+            None => Ok(()),
+        },
     }
 }

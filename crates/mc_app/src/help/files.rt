@@ -17,27 +17,28 @@ pub struct Named<'w> {
     pub target: Option<&'w str>,
 }
 
-/// The files that a request names.
-pub fn files_of<'w>(request: Request<'w>) -> Named<'w> {
+/// The files that a request names, if it names some.
+pub fn files_of<'w>(request: Request<'w>) -> Option<Named<'w>> {
     match request {
-        Request::Check(names) => Named {
+        Request::Check(names) => Some(Named {
             program: names.program,
             definitions: names.definitions,
             third: Some(names.document),
             target: None,
-        },
-        Request::Run(names) => Named {
+        }),
+        Request::Run(names) => Some(Named {
             program: names.program,
             definitions: names.definitions,
             third: Some(names.script),
             target: None,
-        },
-        Request::Analyse(names) => Named {
+        }),
+        Request::Analyse(names) => Some(Named {
             program: names.program,
             definitions: names.definitions,
             third: None,
             target: names.document,
-        },
+        }),
+        Request::Demo(_) => None,
     }
 }
 

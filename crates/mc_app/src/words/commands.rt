@@ -1,7 +1,7 @@
 // The commands, as `clap` reads them.
 ghost use Rattle.std.specs.Prelude.{◌≡◌, IfOk, codes, false};
 ghost use Rattle.clap.specs.Words.{app_of, rule_of};
-ghost use Rattle.mc_app.specs.Words.Commands.{analyse_app, check_app, entry_option, free_option, number_option, option, place, run_app, three_files, two_files};
+ghost use Rattle.mc_app.specs.Words.Commands.{analyse_app, check_app, demo_app, entry_option, free_option, number_option, number_place, option, place, run_app, three_files, two_files};
 
 use clap::builder::ValueParser;
 use clap::{Arg, Command};
@@ -13,6 +13,14 @@ fn place<'w>(alloc: Global, id: &'w str) -> Arg<'w>
     ensures local { result.global ≡ false }
 {
     Arg::new(alloc, id).required(true)
+}
+
+/// A number that has to be there, up to another.
+fn number_place<'w>(alloc: Global, id: &'w str, most: u64) -> Arg<'w>
+    ensures rule { rule_of result ≡ number_place id.entry.now most }
+    ensures local { result.global ≡ false }
+{
+    place(alloc, id).value_parser(ValueParser::Unsigned(0, most))
 }
 
 /// `--id VALUE`, with its value where it is left out.
@@ -93,5 +101,13 @@ pub fn analyse<'w>(alloc: Global) -> Result<Command<'w>, AllocError>
         .arg(number(alloc, "rounds", "30", 100))?
         .arg(number(alloc, "disjuncts", "16", 64))?
         .arg(free_option(alloc, "document"))?;
+    Ok(command)
+}
+
+/// `demo NUMBER`.
+pub fn demo<'w>(alloc: Global) -> Result<Command<'w>, AllocError>
+    ensures { IfOk result (λ c. app_of c ≡ demo_app) }
+{
+    let command = Command::new(alloc, "demo").arg(number_place(alloc, "number", 4_294_967_295))?;
     Ok(command)
 }

@@ -6,8 +6,8 @@ ghost use Rattle.clap.specs.Walk.{rows_of};
 ghost use Rattle.mc_app.specs.declared.words.words.Check.{Check as Judges};
 ghost use Rattle.mc_app.specs.declared.words.words.Run.{Run as Runs};
 ghost use Rattle.mc_app.specs.declared.words.words.Analyse.{Analyse as Analyses};
-ghost use Rattle.mc_app.specs.Words.Commands.{analyse_app, check_app, run_app};
-ghost use Rattle.mc_app.specs.Words.Words.{Asks, AsksAnalyse, AsksCheck, AsksRun, IsFor, Reads, ReadsNumber, ReadsPerhaps};
+ghost use Rattle.mc_app.specs.Words.Commands.{analyse_app, check_app, demo_app, run_app};
+ghost use Rattle.mc_app.specs.Words.Words.{Asks, AsksAnalyse, AsksCheck, AsksDemo, AsksRun, IsFor, Reads, ReadsNumber, ReadsPerhaps, ReadsSmallNumber};
 ghost use Rattle.mc_app.specs.declared.words.words.Request.{Request as Meant};
 
 use crate::words::commands;
@@ -58,6 +58,8 @@ pub enum Request<'w> {
     Check(Check<'w>),
     Run(Run<'w>),
     Analyse(Analyse<'w>),
+    /// Programs that come of a number are to be analysed.
+    Demo(u32),
 }
 
 // The matches of a command, if it finds no fault in the words.
@@ -95,6 +97,14 @@ fn number(found: &ArgMatches<'_>, id: &str) -> Option<u64>
         → MatchOption result ((n : ℕ) → ReadsNumber app words id.now n → ⊥) (ReadsNumber app words id.now) }
 {
     found.get_one::<u64>(id)
+}
+
+// The number below 2^32 that a command has read at one of its names.
+fn small_number(found: &ArgMatches<'_>, id: &str) -> Option<u32>
+    ensures { (app : App) (words : List (List ℕ)) → rows_of (found_of found.now) ≡ matches_of app words
+        → MatchOption result ((n : ℕ) → ReadsSmallNumber app words id.now n → ⊥) (ReadsSmallNumber app words id.now) }
+{
+    found.get_one::<u32>(id)
 }
 
 // The word that a command has read at a name that may be left out.
@@ -198,6 +208,31 @@ fn asked_analyse<'w>(alloc: Global, words: &'w [String]) -> Result<Option<Reques
     }
 }
 
+// What a `demo` names.
+fn demo_of(found: &ArgMatches<'_>) -> Option<u32>
+    ensures { (words : List (List ℕ)) → IsFor (codes "demo") demo_app words
+        → rows_of (found_of found.now) ≡ matches_of demo_app words
+        → MatchOption result ((n : ℕ) → AsksDemo words n → ⊥) (AsksDemo words) }
+{
+    small_number(found, "number")
+}
+
+// The words after `demo`.
+fn asked_demo<'w>(alloc: Global, words: &'w [String]) -> Result<Option<Request<'w>>, AllocError>
+    requires { (rest : List (List ℕ)) × (map string_bytes words.now ≡ codes "demo" ∷ rest) }
+    ensures { IfOk result (λ r. MatchOption r ((a : Meant) → Asks (map string_bytes words.entry.now) a → ⊥)
+        (Asks (map string_bytes words.entry.now))) }
+{
+    let command = commands::demo(alloc)?;
+    let Some(found) = matches(command, words)? else {
+        return Ok(None);
+    };
+    match demo_of(&found) {
+        Some(number) => Ok(Some(Request::Demo(number))),
+        None => Ok(None),
+    }
+}
+
 /// What the words ask for, if they ask for something. The first one names the command, and that command's parser reads
 /// the others.
 pub fn asked<'w>(alloc: Global, words: &'w [String]) -> Result<Option<Request<'w>>, AllocError>
@@ -216,6 +251,9 @@ pub fn asked<'w>(alloc: Global, words: &'w [String]) -> Result<Option<Request<'w
     }
     if name == "analyse" {
         return asked_analyse(alloc, words);
+    }
+    if name == "demo" {
+        return asked_demo(alloc, words);
     }
     Ok(None)
 }

@@ -19,11 +19,11 @@ use mc_flow::defs::Defs;
 use mc_outside::{FileFault, Files};
 use std::alloc::{AllocError, Global};
 
-// How many bytes a program may have.
-const PROGRAM_BYTES: u64 = 1_048_576;
+/// How many bytes a program may have.
+pub const PROGRAM_BYTES: u64 = 1_048_576;
 
-// How many bytes definitions may have.
-const DEFINITION_BYTES: u64 = 262_144;
+/// How many bytes definitions may have.
+pub const DEFINITION_BYTES: u64 = 262_144;
 
 /// The files of a program and of its definitions.
 #[derive(Clone, Copy, Debug, PartialEq, Eq)]
@@ -34,8 +34,8 @@ pub struct Sources<'w> {
     pub start: &'w str,
 }
 
-// The program of a text, or why there is none.
-fn read_program(
+/// The program of a text, or why there is none.
+pub fn read_program(
     alloc: Global,
     bytes: &[u8],
     start: &str,
@@ -76,8 +76,8 @@ fn program_in<F: Files>(
     }
 }
 
-// The definitions of a text over a program's structs, or why there are none.
-fn read_definitions(
+/// The definitions of a text over a program's structs, or why there are none.
+pub fn read_definitions(
     alloc: Global,
     bytes: &[u8],
     typed: &Typed,
@@ -116,8 +116,12 @@ fn definitions_in<F: Files>(
     }
 }
 
-// The program with its definitions, or the first fault of its shape commands.
-fn bound(alloc: Global, typed: Typed, defs: Defs) -> Result<Result<Bound, ProgramFault>, AllocError>
+/// The program with its definitions, or the first fault of its shape commands.
+pub fn bound(
+    alloc: Global,
+    typed: Typed,
+    defs: Defs,
+) -> Result<Result<Bound, ProgramFault>, AllocError>
     requires { DefsFit (struct_infos (unit_of typed.unit)) defs }
     ensures { IfOk result (λ r. MatchResult r (λ bound. Binds bound typed defs × IsBound (unit_of typed.unit) defs)
         (HasMisfit (unit_of typed.unit) defs)) }

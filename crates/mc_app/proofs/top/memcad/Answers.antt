@@ -6,6 +6,8 @@ use Rattle.mc_app.proofs.Leaving.{answer_ends, fault_ends, leaves_document, only
 use Rattle.mc_app.specs.Statuses.{IsComplete, IsDecided}
 use Rattle.mc_app.specs.declared.answer.Status.{Status}
 use Rattle.mc_app.proofs.Deciding.{fault_decides}
+use Rattle.mc_app.specs.Demo.Ending.{EndsWellForDemo}
+use Rattle.mc_app.proofs.Seeing.{answer_ends_demo, fault_ends_demo}
 use Rattle.mc_app.proofs.Printing.{part_of_answer}
 use Rattle.mc_app.proofs.Telling.{alarms_tell, answer_is_like, fault_completes, fault_is_like, fault_tells}
 use Rattle.mc_app.proofs.top.memcad.Goals as goal
@@ -116,6 +118,11 @@ returns-clause-complete g c =
     let holds = g.F.Files.holds c.args.files.now in
     let words = map string_bytes c.args.words.now in
     subst (λ (s : Status). IsComplete holds words s) (sym c.status.ensures) (c.answers_are_complete.ensures holds words c.in-Ok.reply.answer c.in-Ok.ensures.why)
+
+pub returns-clause-demo : goal.returns-clause-demo
+returns-clause-demo g c =
+    let words = map string_bytes c.args.words.now in
+    subst (λ (s : Status). EndsWellForDemo words s) (sym c.status.ensures) (answer_ends_demo (g.F.Files.holds c.args.files.now) words c.in-Ok.reply.answer c.in-Ok.ensures.why)
 
 pub returns-clause-alike : goal.returns-clause-alike
 returns-clause-alike g c =

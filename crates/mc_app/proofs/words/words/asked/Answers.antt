@@ -8,5 +8,8 @@ asked_check-requires c = first_word string_bytes c.args.words.now c.name-item.re
 pub asked_analyse-requires : goal.asked_analyse-requires
 asked_analyse-requires c = first_word string_bytes c.args.words.now c.name-item.result (codes "analyse") c.in-len1-up.len_at_least c.name-item.is (search rules)
 
+pub asked_demo-requires : goal.asked_demo-requires
+asked_demo-requires c = first_word string_bytes c.args.words.now c.name-item.result (codes "demo") c.in-len1-up.len_at_least c.name-item.is (search rules)
+
 pub asked_run-requires : goal.asked_run-requires
 asked_run-requires c = first_word string_bytes c.args.words.now c.name-item.result (codes "run") c.in-len1-up.len_at_least c.name-item.is (search rules)

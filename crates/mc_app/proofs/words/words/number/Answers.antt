@@ -15,4 +15,4 @@ parses bs r g = g.0
 pub returns : goal.returns
 returns c =
     λ app words rows.
-    number_read _ Gives (found_of c.args.found.now) app words c.args.id.now c.get_one.result rows c.get_one.ensures.none c.get_one.ensures.value (λ bs r g. parses bs r g)
+    number_read 64 _ Gives (found_of c.args.found.now) app words c.args.id.now c.get_one.result rows c.get_one.ensures.none c.get_one.ensures.value (λ bs r g. parses bs r g)

@@ -1,0 +1,3 @@
+pub mod Seen
+pub mod Demo
+pub mod Ending
