@@ -1,10 +1,9 @@
 -- Marked alarms are those of exact branches, and in closed programs every alarm is marked.
-use Rattle.std.proofs.Common.{◌≡◌, ◌⊎◌, ◌<◌, ◌≤◌, ◌+◌, ◌*◌, ℕ, zero, suc, pos, Bool, true, false, Option, Some, None, List, [], ◌∷◌, ◌++◌, map, length, if◌then◌else◌, refl, sym, ap, subst, arith, inl, inr}
+use Rattle.std.proofs.Common.{◌≡◌, ◌<◌, ◌≤◌, ◌+◌, ◌*◌, ℕ, zero, suc, pos, Bool, true, false, Option, Some, None, List, [], ◌∷◌, map, length, if◌then◌else◌, refl, sym, subst, arith, inl, inr}
 use Rattle.std.specs.List.{AllByRecursion}
 use Rattle.mc_base.specs.declared.ids.NodeId.{NodeId}
 use Rattle.mc_base.specs.declared.ids.PredId.{PredId}
 use Rattle.mc_base.specs.declared.plain.Kind.TheVariants.{Ptr}
-use Rattle.mc_base.specs.Nodes.{null}
 use Rattle.mc_flow.specs.declared.defs.rules.Def.{Def}
 use Rattle.mc_flow.specs.declared.graph.Flow.{Flow}
 use Rattle.mc_flow.specs.declared.instr.Instr.{Instr}
@@ -27,8 +26,8 @@ use Rattle.mc_kernel.specs.Oracle.Judges.{JudgesAreThere}
 use Rattle.mc_kernel.specs.Progress.Progress.{advances}
 use Rattle.mc_exact.specs.Exact as rule
 use Rattle.mc_exact.specs.Exact.{Picks, IsExactBranch}
-use Rattle.mc_exact.specs.Least.{least, least_from}
-use Rattle.mc_exact.specs.Marks.{Alarm, AreMarked, Branch, ClosedAlarmsAreMarked, IsMark, IsMarked, IsRightAlarm, IsShape, MarksAreExact, Tracked, alone, entry, followed, inexact, keeps_exact, ruled, stuck}
+use Rattle.mc_exact.specs.Least.{least_from}
+use Rattle.mc_exact.specs.Marks.{Alarm, Branch, ClosedAlarmsAreMarked, IsMark, IsMarked, IsRightAlarm, IsShape, MarksAreExact, Tracked, alone, entry, followed, inexact, keeps_exact, ruled, stuck}
 use Rattle.mc_exact.specs.Real.{IsShort, answered}
 use Rattle.mc_exact.specs.Tracks.{AsksMallocAlone, IsExactTrack, Track, tracked}
 use Rattle.mc_exact.proofs.LowerLaws.{RunLaws, StateLaws}

@@ -61,8 +61,8 @@ unmarked b = (b, None)
 abbrev pub IsShape : Gap → Type 0
 IsShape gap = (pred : PredId) × (n : NodeId) × (gap ≡ NoShape pred n)
 
--- the mark of a branch that is stuck at a state with a gap: the answers of malloc by what is known there, where it is exact and the
--- gap is no shape
+-- the mark of a branch that is stuck at a state with a gap: the answers of malloc by what is known there, where it is exact and
+-- the gap is no shape
 abbrev pub IsMark : State → Option Picks → Gap → Option (List ℕ) → Type 0
 IsMark s None gap mark = mark ≡ None
 IsMark s (Some picks) gap None = IsShape gap
@@ -97,8 +97,8 @@ pub record AreMarked (flow : Flow) (defs : List Def) (lines : List Line) (alarms
 
 -- ---- laws
 
--- the alarm of an exact branch that lacks something, no shape: these answers, which are small, are those that it has by all that is
--- known at its state
+-- the alarm of an exact branch that lacks something, no shape: these answers, which are small, are those that it has by all that
+-- is known at its state
 pub record IsExactAlarm (flow : Flow) (defs : List Def) (b : Path) (answers : List ℕ) : Type 0 where
   pub picks : Picks
   pub track : IsExactTrack flow (b, picks)

@@ -1,5 +1,5 @@
 -- How many branches come of a line.
-use Rattle.std.proofs.Common.{◌≡◌, ◌++◌, ◌+◌, ◌∙◌, ℕ, suc, List, [], ◌∷◌, Bool, true, false, Option, Some, None, if◌then◌else◌, flat_map, length, map, option_map, refl, slice_get, sym, ap, ap₂, arith}
+use Rattle.std.proofs.Common.{◌≡◌, ◌+◌, ◌∙◌, ℕ, suc, List, [], ◌∷◌, Bool, true, false, Option, Some, if◌then◌else◌, flat_map, length, map, option_map, refl, slice_get, sym, ap, ap₂}
 use Rattle.std.specs.Prelude.{◌==◌, unwrap_or}
 use Rattle.std.proofs.lemmas.List.{length-append, length-map}
 use Rattle.mc_base.specs.declared.ids.PredId.{PredId}
@@ -7,12 +7,10 @@ use Rattle.mc_flow.specs.declared.defs.rules.Call.{Call}
 use Rattle.mc_flow.specs.declared.defs.rules.Def.{Def}
 use Rattle.mc_flow.specs.declared.defs.rules.Rule.{Rule}
 use Rattle.mc_flow.specs.declared.graph.Flow.{Flow}
-use Rattle.mc_state.specs.declared.graph.edge.Edge.{Edge}
 use Rattle.mc_state.specs.declared.line.InstrRule.{InstrRule}
 use Rattle.mc_state.specs.declared.line.InstrRule.TheVariants as step
 use Rattle.mc_state.specs.State.{State}
 use Rattle.mc_rules_logic.specs.Unfold.Unfolded.{own_places}
-use Rattle.mc_rules_steps.specs.Next.{Next}
 use Rattle.mc_lines.specs.declared.cert.line.Line.{Line}
 use Rattle.mc_lines.specs.declared.cert.line.Line.TheVariants as line
 use Rattle.mc_kernel.specs.Branches.{Path, Setting, path_of}

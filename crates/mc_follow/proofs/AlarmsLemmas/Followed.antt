@@ -68,9 +68,13 @@ pub alarm_more : (flow : Flow) (defs : List Def) (alarms : List Alarm) (a : Alar
     → IsAlarmLine flow defs a.0.point a.0.state line → AreAlarmLines flow defs (alarms ++ a ∷ []) (text ++ (line ++ real_line a.1))
 alarm_more flow defs [] a text line none is =
     (line, [], is, refl, ap (λ (t : List ℕ). t ++ (line ++ real_line a.1)) none ∙ sym (append-nil (line ++ real_line a.1)))
-alarm_more flow defs (c ∷ alarms) a text line (own, later, is_own, rest, spelled) is =
-    (own, later ++ (line ++ real_line a.1), is_own, alarm_more flow defs alarms a later line rest is,
-    ap (λ (t : List ℕ). t ++ (line ++ real_line a.1)) spelled ∙ append_assoc (own ++ real_line c.1) later (line ++ real_line a.1))
+alarm_more flow defs (c ∷ alarms) a text line (own, later, is_own, rest, spelled) is = (
+  own,
+  later ++ (line ++ real_line a.1),
+  is_own,
+  alarm_more flow defs alarms a later line rest is,
+  ap (λ (t : List ℕ). t ++ (line ++ real_line a.1)) spelled ∙ append_assoc (own ++ real_line c.1) later (line ++ real_line a.1),
+)
 
 module _ (laws : DocumentsAreFollowed) (flow : Flow) (defs : List Def) (valid : IsValid flow defs) where
   module _ (k : Knowledge) (well : RawState → Bool) (judge : IsJudge k well flow defs) where
@@ -221,10 +225,10 @@ module _ (laws : DocumentsAreFollowed) (flow : Flow) (defs : List Def) (valid : 
 
   pub goes_further : (more_laws : BranchesAreFollowed) (lines : List Line) (l : Line) (old new : Position) (text : List ℕ) (ended : ℕ) (tracks : List (Option Picks)) (n : ℕ) → goes_on l ≡ true → MayApply l old
       → IsFollowed flow defs lines old text ended tracks → IsApplied l old new → n ≡ ended + ending l → n ≤ 65536
-      → (coming : Coming) → IsComing defs l old coming → (after : List (Option Picks))
-      → ((track : Option Picks) (rest : List (Option Picks)) → tracks ≡ track ∷ rest → after ≡ tracks_after l coming.node track coming.count ++ rest)
-      → IsFollowed flow defs (lines ++ l ∷ []) new text n after
-  goes_further more_laws lines l old new text ended tracks n goes fits f applied count few coming is_coming after turned =
+      → (coming : Coming) → IsComing defs l old coming → (new_tracks : List (Option Picks))
+      → ((track : Option Picks) (rest : List (Option Picks)) → tracks ≡ track ∷ rest → new_tracks ≡ tracks_after l coming.node track coming.count ++ rest)
+      → IsFollowed flow defs (lines ++ l ∷ []) new text n new_tracks
+  goes_further more_laws lines l old new text ended tracks n goes fits f applied count few coming is_coming new_tracks turned =
       let one = laws.judges flow defs valid in
       let r = f.reads one.0 one.1 one.2 in
       let m = more one.0 one.1 one.2 (line.Pass ∷ f.rules) l r.last old new r.read r.stands f.of_flow f.of_defs applied in
@@ -245,7 +249,7 @@ module _ (laws : DocumentsAreFollowed) (flow : Flow) (defs : List Def) (valid : 
         ruled = still_begun one.0 one.1 one.2 m.next new m.stands i.begun_still;
         alarms = f.alarms;
         told = f.told;
-        marked = marked_more flow defs f.rules old.branches tracks f.alarms l i.first i.others i.paths new.branches coming.node coming.count after f.marked i.open_are
+        marked = marked_more flow defs f.rules old.branches tracks f.alarms l i.first i.others i.paths new.branches coming.node coming.count new_tracks f.marked i.open_are
             (fits.advance i.first i.others i.open_are) (subst (λ (g : Setting). IsInstance flow defs g l i.first i.paths) (judged_alone old f.form_is f.no_cuts f.no_heads) i.instance)
             v.branches_are (is_coming i.first i.others i.open_are).0 (is_coming i.first i.others i.open_are).1 turned;
         reads = λ k well judge.

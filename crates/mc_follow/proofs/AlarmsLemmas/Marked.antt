@@ -1,5 +1,5 @@
 -- The tracks of open branches and the alarms go on with the lines.
-use Rattle.std.proofs.Common.{◌≡◌, ◌++◌, ◌∷◌, ◌∙◌, ℕ, List, [], Bool, true, false, Option, Some, None, if◌then◌else◌, length, map, option_map, refl, replicate, sym, ap, ap₂, subst}
+use Rattle.std.proofs.Common.{◌≡◌, ◌++◌, ◌∷◌, ◌∙◌, ℕ, List, [], true, Option, Some, None, length, map, refl, replicate, sym, ap, ap₂, subst}
 use Rattle.std.proofs.lemmas.List.{map-append}
 use Rattle.mc_base.specs.declared.ids.NodeId.{NodeId}
 use Rattle.mc_flow.specs.declared.defs.rules.Def.{Def}
@@ -14,8 +14,8 @@ use Rattle.mc_kernel.specs.Branches.{IsPlain, Path}
 use Rattle.mc_kernel.specs.Instances.{IsInstance}
 use Rattle.mc_kernel.specs.Progress.Progress.{advances}
 use Rattle.mc_exact.specs.Exact.{Picks}
-use Rattle.mc_exact.specs.Marks.{Alarm, Branch, IsMark, Tracked, alone, followed, inexact, keeps_exact, ruled, stuck}
-use Rattle.mc_exact.specs.Tracks.{Track, picked, tracked}
+use Rattle.mc_exact.specs.Marks.{Alarm, Branch, IsMark, Tracked, alone, followed, inexact, ruled, stuck}
+use Rattle.mc_exact.specs.Tracks.{Track, picked}
 use Rattle.mc_follow.specs.Alarms.Tracks.{come, is_allocation, tracks_after}
 use Rattle.mc_follow.specs.Alarms.Walks.{IsMarkedTo}
 use Rattle.mc_follow.proofs.AlarmsLemmas.Coming.{count_is}

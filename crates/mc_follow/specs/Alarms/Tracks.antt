@@ -53,7 +53,8 @@ own_calls_in pred (rule ∷ rules) = own_calls pred rule.calls + own_calls_in pr
 abbrev pub rules_of : List Def → PredId → List Rule
 rules_of defs pred = unwrap_or (option_map (λ def. def.rules) (slice_get defs pred.0)) []
 
--- of an edge that is unfolded come: of an Ind a branch for each rule, of a Seg one more than its rules have calls of its predicate
+-- what comes of an edge that is unfolded: of an Ind a branch for each rule, of a Seg one more than its rules have calls of its
+-- predicate
 abbrev pub unfold_count : List Def → Option Edge → ℕ
 unfold_count defs (Some (Ind at pred args)) = length (rules_of defs pred)
 unfold_count defs (Some (Seg at args pred stop ends)) = suc (own_calls_in pred (rules_of defs pred))

@@ -4,8 +4,8 @@ ghost use Rattle.mc_follow.specs.Alarms.Outcomes.{IsOnward};
 ghost use Rattle.mc_follow.specs.Alarms.Walks.{AreCovered, IsAtCode, IsFirstGone, IsMet, IsNowhere, IsSure, IsTurned, IsWalk, MayApply, ending, goes_on};
 ghost use Rattle.mc_flow.specs.Valid.{IsValid};
 
-use crate::alarms::laws::{branches_are_followed, documents_are_followed};
 use crate::alarms::coming::sum;
+use crate::alarms::laws::{branches_are_followed, documents_are_followed};
 use crate::alarms::lines::{ending, goes_on};
 use crate::alarms::mark::mark;
 use crate::alarms::tracks::Tracks;

@@ -31,7 +31,8 @@ pub fn mark(
     track: Option<&[Option<NodeId>]>,
     gap: Gap,
 ) -> Result<Option<Vec<u64>>, NoMemory>
-    ensures { IfOk result (λ mark. IsMark state.now (option_map (λ picks. picks.now) track.entry) gap (option_map (λ list. list.items) mark)) }
+    ensures { IfOk result (λ mark.
+        IsMark state.now (option_map (λ picks. picks.now) track.entry) gap (option_map (λ list. list.items) mark)) }
 {
     let Some(picks) = track else {
         return Ok(None);

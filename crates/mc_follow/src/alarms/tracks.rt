@@ -133,7 +133,13 @@ impl Tracks {
     }
 
     /// Goes on by a line at an exact branch.
-    fn go_on(&mut self, line: &Line, node: NodeId, track: Picked, count: u64) -> Result<(), NoMemory>
+    fn go_on(
+        &mut self,
+        line: &Line,
+        node: NodeId,
+        track: Picked,
+        count: u64,
+    ) -> Result<(), NoMemory>
         ensures { OnOk result (self.new ≡ tracks_after line.now node (Some track.picks.items) count ++ self.old) }
     {
         if is_allocation(line) {

@@ -96,11 +96,7 @@ fn push_script(alloc: Global, out: &mut Vec<u8>, answers: &[u64]) -> Result<(), 
 }
 
 /// Adds the line of a mark: the script on which the program faults there.
-pub fn push_real(
-    alloc: Global,
-    out: &mut Vec<u8>,
-    mark: &Option<Vec<u64>>,
-) -> Result<(), NoMemory>
+pub fn push_real(alloc: Global, out: &mut Vec<u8>, mark: &Option<Vec<u64>>) -> Result<(), NoMemory>
     ensures { OnOk result (out.new.items ≡ out.old.items ++ real_line (option_map (λ answers. answers.items) mark.now)) }
 {
     let Some(answers) = mark else {

@@ -13,15 +13,17 @@ returns-clause-stuck c =
     let defs = c.args.defs.now in
     let line : Text = alarm_line flow defs c.args.point c.in-Some.gap c.in_ok-text.text in (
       (c.in_ok-gap.ensures c.in-Some.gap).0 c.in-Some.is,
-      (line,
-      record {
-        gap = c.in-Some.gap;
-        unmet = (c.in_ok-gap.ensures c.in-Some.gap).0 c.in-Some.is;
-        state = c.in_ok-text.text;
-        state_is = text_told c.as_slice.result.now flow.vars c.as_slice-2.result.now defs c.as_slice-3.result.now flow.structs.list
-            c.args.state.now c.in_ok-text.text c.as_slice.ensures c.as_slice-2.ensures.same c.as_slice-3.ensures c.in_ok-text.ensures;
-        spelled = refl;
-      },
-      c.in_ok-push_alarm_line.ensures
-          ∙ ap (λ (t : Text). c.args.out.now.items ++ alarm_line flow defs c.args.point c.in-Some.gap t) c.as_slice-4.ensures),
+      (
+        line,
+        record {
+          gap = c.in-Some.gap;
+          unmet = (c.in_ok-gap.ensures c.in-Some.gap).0 c.in-Some.is;
+          state = c.in_ok-text.text;
+          state_is = text_told c.as_slice.result.now flow.vars c.as_slice-2.result.now defs c.as_slice-3.result.now flow.structs.list
+              c.args.state.now c.in_ok-text.text c.as_slice.ensures c.as_slice-2.ensures.same c.as_slice-3.ensures c.in_ok-text.ensures;
+          spelled = refl;
+        },
+        c.in_ok-push_alarm_line.ensures
+            ∙ ap (λ (t : Text). c.args.out.now.items ++ alarm_line flow defs c.args.point c.in-Some.gap t) c.as_slice-4.ensures,
+      ),
     )

@@ -1,4 +1,4 @@
-use Rattle.std.proofs.Common.{◌≡◌, ◌++◌, ◌∙◌, ℕ, List, Some, None, Option, Vec, option_map, ap, refl, sym, subst}
+use Rattle.std.proofs.Common.{◌≡◌, ◌++◌, ◌∙◌, ℕ, List, Some, None, Option, option_map, ap, refl, sym, subst}
 use Rattle.std.specs.Borrow.{Bor}
 use Rattle.std.specs.Prelude.{Err}
 use Rattle.mc_lines.specs.declared.cert.line.Line.TheVariants.{C1}
@@ -31,9 +31,9 @@ returns-in-Ok-clause-follows c =
     let defs = c.args.defs.now in
     let old = c.args.self.now in
     let branch : Path = path c.in-Some.branch.now in
-    let gap = c.in-Some-gap.gap in
-    let own = rw c.in-Some-gap.is at c.in_ok-found.ensures.stuck in
-    let mark = option_map (λ (list : Vec ℕ). list.items) c.in_ok-mark.mark in
+    let gap = c.in-Some-found.gap in
+    let own = rw c.in-Some-found.is at c.in_ok-found.ensures.stuck in
+    let mark = option_map (λ list. list.items) c.in_ok-mark.mark in
     let current : Some branch ≡ option_map (λ (b : Path × List Path). b.0) (first_branch old.proof.branches) =
     sym (ap (λ (b : Option (Bor Branch)). option_map (λ (b : Bor Branch). path b.now) b) c.in-Some.is) ∙ c.current.ensures in
     let laws = c.documents_are_followed.ensures in
@@ -81,10 +81,10 @@ returns-in-Err-Premise-clause-met c = λ e.
           (refused_nowhere laws flow defs old.lines.items old.proof old.text.items old.ended old.tracks c.requires.followed C1 _ refl told.0),
     )
 
-pub returns-in_default-clause-met : goal.returns-in_default-clause-met
-returns-in_default-clause-met c = λ e.
+pub returns-in_default-found-clause-met : goal.returns-in_default-found-clause-met
+returns-in_default-found-clause-met c = λ e.
     let old = c.args.self.now in
-    let met = c.in_ok-found.ensures.met (none_found c.in_ok-found.found c.in_default.not-Some) in
+    let met = c.in_ok-found.ensures.met (none_found c.in_ok-found.found c.in_default-found.not-Some) in
     let current : Some (path c.in-Some.branch.now) ≡ option_map (λ (b : Path × List Path). b.0) (first_branch old.proof.branches) =
     sym (ap (λ (b : Option (Bor Branch)). option_map (λ (b : Bor Branch). path b.now) b) c.in-Some.is) ∙ c.current.ensures in (
       refl,
