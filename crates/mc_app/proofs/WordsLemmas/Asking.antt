@@ -1,5 +1,5 @@
 -- What is not asked for.
-use Rattle.std.proofs.Common.{◌≡◌, ◌∙◌, ◌∙◌, ℕ, ◌≤◌, List, [], ◌∷◌, map, length, get_or, ap, sym, subst, Option, Some, MatchOption, arith, codes}
+use Rattle.std.proofs.Common.{◌≡◌, ◌∙◌, ◌∙◌, ℕ, ◌≤◌, List, [], ◌∷◌, map, length, get_or, ap, sym, subst, Option, None, Some, MatchOption, arith, codes}
 use Rattle.clap.specs.Words.{App, matches_of}
 use Rattle.clap.specs.Walk.{Row}
 use Rattle.clap.specs.Faults.{fault_of}
@@ -9,7 +9,7 @@ use Rattle.mc_app.specs.declared.words.words.Request.TheVariants as request
 use Rattle.mc_app.specs.declared.words.words.Analyse.{Analyse}
 use Rattle.mc_app.specs.declared.words.words.Run.{Run}
 use Rattle.mc_app.specs.Words.Commands.{analyse_app, check_app, demo_app, run_app}
-use Rattle.mc_app.specs.Words.Words.{Asks, AsksAnalyse, AsksCheck, AsksDemo, AsksRun}
+use Rattle.mc_app.specs.Words.Words.{Asks, AsksAnalyse, AsksCheck, AsksDemo, AsksRun, IsFor, ReadsSmallNumber}
 
 -- the words begin with this one
 abbrev pub BeginsWith : List ℕ → List (List ℕ) → Type 0
@@ -89,6 +89,13 @@ analyse_at_fault words bad c asks = bad asks.named.1
 
 pub demo_at_fault : (words : List (List ℕ)) → (fault_of demo_app words ≡ [] → ⊥) → (n : ℕ) → AsksDemo words n → ⊥
 demo_at_fault words bad n asks = bad asks.named.1
+
+-- a `demo` is asked for where its number is read
+pub demo_asked : (words : List (List ℕ)) (r : Option ℕ) → IsFor (codes "demo") demo_app words
+    → MatchOption r ((n : ℕ) → ReadsSmallNumber demo_app words (codes "number") n → ⊥) (ReadsSmallNumber demo_app words (codes "number"))
+    → MatchOption r ((n : ℕ) → AsksDemo words n → ⊥) (AsksDemo words)
+demo_asked words None named none = λ n asks. none n asks.number
+demo_asked words (Some n) named reads = record { named = named; number = reads }
 
 -- words of which this is the first one
 pub first_word : {A : Type 0} (text : A → List ℕ) (words : List A) (x : A) (name : List ℕ) → 1 ≤ length words → x ≡ get_or words 0 x → text x ≡ name → BeginsWith name (map text words)
