@@ -3,4 +3,4 @@ pub mod Bounding
 pub mod NearFaults
 pub mod ExactAlarms
 mod ScriptLines
-mod Marked
+mod MarkedAlarms

@@ -1,4 +1,4 @@
-use Rattle.mc_real.proofs.Marked.{marked_alarms}
+use Rattle.mc_real.proofs.MarkedAlarms.{marked_alarms}
 use Rattle.mc_real.proofs.marked.marked_alarms_are_real.Goals as goal
 
 pub returns : goal.returns
