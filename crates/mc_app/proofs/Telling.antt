@@ -146,7 +146,7 @@ alarms_tell holds words (Analysed (results.Found (analysis.Alarms f count))) old
         alarming.report,
         adds,
         subst (λ (l : List Path). TellsFaults a.start.now unit defs l found.0) alarming.stuck_are
-        (told_by b.start.now a.start.now unit defs found.0 alarming.stuck count same.start found.1 alarming.counted alarming.some found.3.1.0),
+            (told_by b.start.now a.start.now unit defs found.0 alarming.stuck count same.start found.1 alarming.counted alarming.some found.3.1.0),
         subst (λ (s : List ℕ). AreReal s unit defs found.0 alarming.alarms) same.start found.3.1.1,
       ),
     )

@@ -11,9 +11,7 @@ ghost use Rattle.mc_app.specs.Statuses.{AlarmsTell, IsComplete, IsDecided};
 
 use crate::analysing::answer_analysis;
 use crate::checking::answer_check;
-use crate::laws::{
-    answers_are_complete, closed_programs_are_decided, documents_are_judged_alike,
-};
+use crate::laws::{answers_are_complete, closed_programs_are_decided, documents_are_judged_alike};
 use crate::running::answer_run;
 use crate::words::{Request, asked};
 use crate::{Answer, Status};

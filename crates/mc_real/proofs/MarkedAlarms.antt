@@ -44,5 +44,5 @@ marked_alarms judges made reached taken interpreted entry unit defs g b answers 
       steps = run.3;
       faults = run.7;
       answered = λ fuel ending enough runs. interpreted unit entry defs run.0 answers (malloc_lines answers) run.3 fuel run.2 run.1.place ending is.typed run.4 run.7 (omega arith)
-      (taken (struct_infos unit) answers (all_small answers mark.small)) runs;
+          (taken (struct_infos unit) answers (all_small answers mark.small)) runs;
     }
