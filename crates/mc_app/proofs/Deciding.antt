@@ -33,7 +33,7 @@ use Rattle.mc_app.specs.declared.answer.Status.TheVariants as statuses
 use Rattle.mc_app.specs.declared.words.words.Analyse.{Analyse}
 use Rattle.mc_app.specs.declared.words.words.Request.{Request}
 use Rattle.mc_app.specs.declared.words.words.Request.TheVariants as request
-use Rattle.mc_app.proofs.Asked.{no_analysis, no_other, one_word}
+use Rattle.mc_app.proofs.Asked.{no_analysis, no_demo_analysis, no_other, one_word}
 use Rattle.mc_app.proofs.Real.{ClosedLowered}
 
 -- a program with an alarm that is real is not safe
@@ -81,6 +81,7 @@ decided closed holds words s complete a unit defs ready is = by (complete (reque
     by_command : (q : Request) → Asks words q → EndsBy holds q unit defs s → Decides start unit defs s
     by_command (request.Check c) asks ends = absurd (no_analysis words c a asks ready.asks)
     by_command (request.Run r) asks ends = absurd (no_other words r a asks ready.asks)
+    by_command (request.Demo n) asks ends = absurd (no_demo_analysis words a n ready.asks asks)
     by_command (request.Analyse b) asks ends =
         let same = one_word analyse_app words _ b.start.now a.start.now asks.start ready.asks.start in
         subst (λ (x : Status). Decides start unit defs x) (sym ends.2) (decides closed start unit defs is b same ends.0 ends.1)
