@@ -26,6 +26,7 @@ const fn losing(step: Step, heads: usize) -> Style {
         room: 0,
         rung: Rung { step, loses: true },
         heads,
+        nulls: false,
     }
 }
 
@@ -36,13 +37,26 @@ const fn climbing() -> Style {
         room: 0,
         rung: first_rung(Step::Plain),
         heads: 4,
+        nulls: false,
+    }
+}
+
+/// How an attempt folds that fits states to heads at once, null to structures too.
+const fn gathering() -> Style {
+    Style {
+        before: 0,
+        room: 0,
+        rung: first_rung(Step::Match),
+        heads: 0,
+        nulls: true,
     }
 }
 
 /// How the attempts fold, in their order.
-const fn styles() -> [Style; 7] {
+const fn styles() -> [Style; 8] {
     [
         losing(Step::Plain, 8),
+        gathering(),
         losing(Step::Coarse, 8),
         losing(Step::Plain, 4),
         losing(Step::Coarse, 4),
@@ -66,6 +80,7 @@ pub fn first_faults(alloc: Global, task: Task<'_>) -> Result<Vec<Blocked>, NoMem
         room: 0,
         rung: first_rung(Step::Plain),
         heads: 0,
+        nulls: false,
     };
     let mut attempt = Attempt::new(alloc, task, Aim::Faults, style, limits)?;
     attempt.run()?;
@@ -187,9 +202,16 @@ fn is_right(best: &Option<Offer>) -> bool {
 }
 
 /// Whether an attempt of this style may tell better. The one that climbs the ladder takes long, and is made where nothing
-/// is right so far.
+/// is right so far; the one that fits null to structures has fewer heads, and is made where what is right is told too often.
 fn is_needed(style: &Style, best: &Option<Offer>, faults: &[Blocked]) -> bool {
-    !is_settled(best, faults) && (style.rung.loses || !is_right(best))
+    if is_settled(best, faults) {
+        return false;
+    }
+    if style.nulls {
+        is_right(best)
+    } else {
+        style.rung.loses || !is_right(best)
+    }
 }
 
 /// What was found best.

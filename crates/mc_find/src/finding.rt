@@ -24,6 +24,7 @@ const fn planned(before: usize, room: i64, step: Step, keys: usize) -> Plan {
             room,
             rung: first_rung(step),
             heads: 0,
+            nulls: false,
         },
         keys,
     }

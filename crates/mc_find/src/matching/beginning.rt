@@ -14,13 +14,15 @@ fn are_null_alike(state: &State, kind: Kind, node: NodeId, own: NodeId) -> bool 
     }
 }
 
-/// What variables say of the images of a head's nodes. None where they do not fit.
+/// What variables say of the images of a head's nodes. None where they do not fit. A pointer must be null on both sides or on
+/// neither, unless null fits where the head has a structure that may be empty.
 pub fn begin(
     alloc: Global,
     manner: Manner<'_>,
     state: &State,
     point: PointId,
     head: &RawState,
+    nulls: bool,
 ) -> Result<Option<Fit>, NoMemory> {
     let mut parts = Vec::with_capacity(alloc, head.edges.len())?;
     for _ in head.edges.as_slice() {
@@ -43,9 +45,8 @@ pub fn begin(
             return Ok(None);
         };
         let term = Term { node: own, add: 0 };
-        if !are_null_alike(state, manner.sight.var_kind(x), *node, own)
-            || !fit.bind(state, *node, term)
-        {
+        let is_alike = nulls || are_null_alike(state, manner.sight.var_kind(x), *node, own);
+        if !is_alike || !fit.bind(state, *node, term) {
             return Ok(None);
         }
     }

@@ -95,8 +95,9 @@ pub fn find_fit(
     point: PointId,
     reached: &[bool],
     head: &RawState,
+    nulls: bool,
 ) -> Result<Option<Fit>, NoMemory> {
-    let Some(first) = begin(alloc, manner, state, point, head)? else {
+    let Some(first) = begin(alloc, manner, state, point, head, nulls)? else {
         return Ok(None);
     };
     let ground = Ground {

@@ -22,7 +22,15 @@ impl<'a> Attempt<'a> {
         let Some(state) = trail.state() else {
             return Ok(None);
         };
-        let found = find_fit(self.alloc, manner, state, cut, reached, &head.raw)?;
+        let found = find_fit(
+            self.alloc,
+            manner,
+            state,
+            cut,
+            reached,
+            &head.raw,
+            self.style.nulls,
+        )?;
         let Some(own) = found else {
             return Ok(None);
         };

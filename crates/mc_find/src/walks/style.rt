@@ -32,13 +32,15 @@ pub struct Rung {
 }
 
 /// How an attempt folds: how many fields before a live variable's node blocks stay, by how much the numbers of new
-/// segments are more, where it begins on the ladder, and how many heads a cut has where they lose (0: none does).
+/// segments are more, where it begins on the ladder, how many heads a cut has where they lose (0: none does), and
+/// whether null fits where a head has a structure that may be empty.
 #[derive(Clone, Copy)]
 pub struct Style {
     pub before: usize,
     pub room: i64,
     pub rung: Rung,
     pub heads: usize,
+    pub nulls: bool,
 }
 
 /// What each attempt goes by: the program as it is looked at, the predicates in the order in which they are wanted, those
