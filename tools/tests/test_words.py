@@ -61,7 +61,7 @@ def test_programs_are_made_and_judged(folder):
     one, other = ran(folder, "demo 0"), ran(folder, "demo 0")
     lines = one.stdout.splitlines()
     assert (one.returncode, one.stderr, other.stdout) == (0, "", one.stdout)
-    assert lines[0].startswith("1: 1 3 4: alarms: ") and lines[1] == "2: 0 1 0: safe"
+    assert lines[:2] == ["1: 1 3 4: alarms: 2", "2: 0 1 0: safe"]
     assert len(lines) == 65 and lines[64].startswith("demo: ")
 
 
