@@ -19,6 +19,7 @@ fn shown(alloc: Global, request: Request<'_>) -> Result<String, AllocError> {
         Request::Check(check) => shown_check(alloc, check),
         Request::Run(run) => shown_run(alloc, run),
         Request::Analyse(analyse) => shown_analyse(alloc, analyse),
+        Request::Demo(number) => format!(in alloc; "demo {number}"),
     }
 }
 
