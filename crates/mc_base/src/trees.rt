@@ -70,7 +70,8 @@ fn step_before<T: Tree>(tree: T, waiting: T) -> (T, Option<T>)
     }
 }
 
-// One of several trees, and a tree of the others.
+// One of several trees, and a tree of the others, if there are any: an empty one that waited would be taken apart
+// and made again at each level of a deep tree.
 fn split<T: Tree>(trees: Several<T, T::Rest>) -> Option<(T, Option<T>)>
     ensures { IfSome result (λ next. work_on T.size next.0 next.1 < work (several_size T.size trees + 1) 0) }
 {
@@ -79,7 +80,13 @@ fn split<T: Tree>(trees: Several<T, T::Rest>) -> Option<(T, Option<T>)>
             Some((Box::into_inner(first), Some(Box::into_inner(second))))
         }
         Several::Many(rest, mut list) => match list.pop() {
-            Some(last) => Some((last, Some(T::holding(Several::Many(rest, list))))),
+            Some(last) => {
+                if list.is_empty() {
+                    list.destroy_empty();
+                    return Some((last, None));
+                }
+                Some((last, Some(T::holding(Several::Many(rest, list)))))
+            }
             None => {
                 list.destroy_empty();
                 None
