@@ -84,22 +84,46 @@ def explain(options, engine, made, result):
     """Diagnostics for what is not proved."""
     answer, translation = result.answer, result.translation
     explainer = Explainer(translation)
-    if answer.report.alarms:
-        result.diagnostics = distinct([explainer.of_alarm(it) for it in answer.report.alarms])
-        if not has_loops(made.program) or options.seconds <= 0:
-            return
     if answer.status in (3, 4) and answer.last != "program: NotYet":
         result.diagnostics = [own_fault(answer, translation)]
         return
+    result.diagnostics = distinct([explainer.of_alarm(it) for it in answer.report.alarms])
     runner = make_runner(engine, made, answer)
-    fault = runner.search(options.seconds, more=options.more) if runner else None
-    if fault is not None:
-        guilty = culprit(runner, translation, answer, made.program, fault)
-        found = explainer.of_fault(fault.kind, fault.line, fault.column, fault.script, guilty)
-        result.diagnostics = distinct([found, *[it for it in result.diagnostics if it.place.line != found.place.line]])
-        answer.script = fault.script
+    faults = faults_of(options, runner, made.program, answer)
+    found = [told_fault(explainer, runner, made.program, answer, it) for it in faults]
+    result.diagnostics = distinct(joined(found, result.diagnostics))
+    if faults:
+        answer.script = faults[0].script
     elif not result.diagnostics:
         result.explanation = why_not(answer)
+
+
+def faults_of(options, runner, program, answer):
+    """The faults to which runs lead: on the scripts of alarms, or where none has one, on scripts that are looked for."""
+    if runner is None:
+        return []
+    faults = runner.faults_of(answer.report.alarms)
+    if faults or options.seconds <= 0 or answer.report.alarms and not has_loops(program):
+        return faults
+    fault = runner.search(options.seconds, more=options.more)
+    return [fault] if fault else []
+
+
+def told_fault(explainer, runner, program, answer, fault):
+    guilty = culprit(runner, explainer.translation, answer, program, fault)
+    return explainer.of_fault(fault.kind, fault.line, fault.column, fault.script, guilty)
+
+
+def joined(found, alarms):
+    """Faults that runs have, and the alarms of other lines; a fault takes over what is known in the alarm of its line."""
+    by_line = {it.place.line: it for it in reversed(alarms)}
+    for it in found:
+        alarm = by_line.get(it.place.line)
+        if alarm is not None:
+            it.state = alarm.state
+            it.notes += [note for note in alarm.notes if note not in it.notes]
+    lines = [it.place.line for it in found]
+    return [*found, *[it for it in alarms if it.place.line not in lines]]
 
 
 def has_loops(program):

@@ -1,5 +1,6 @@
 """The printed reports of memcad, and the states in them."""
 
+import json
 import re
 from dataclasses import dataclass, field
 
@@ -48,11 +49,12 @@ class State:
 
 @dataclass
 class Alarm:
-    """A place where something may go wrong."""
+    """A place where something may go wrong, with a script on which it does, where memcad gives one."""
 
     place: tuple
     unmet: list
     state: State
+    script: object = None
 
 
 @dataclass
@@ -109,9 +111,16 @@ def parse_state(text):
     return State(variables, [it for it in edges if it], atoms, text)
 
 
+def parse_script(text):
+    """The lines of a script, which stand parted by blanks; `-` is the empty script."""
+    return [] if text == "-" else [json.loads(it) for it in text.split(" ")]
+
+
 def parse_report(text):
     report = Report()
     for line in text.splitlines():
+        if line.startswith("real: ") and report.alarms:
+            report.alarms[-1].script = parse_script(line.removeprefix("real: "))
         found = re.match(r"alarm at (\d+):(\d+) ([^:]*): (.*)$", line)
         if found:
             report.alarms.append(Alarm((int(found[1]), int(found[2])), found[3].split(), parse_state(found[4])))

@@ -11,6 +11,7 @@ from dataclasses import dataclass, field
 TOKENS = re.compile(r"->|!=|<=|>=|[A-Za-z_]\w*|\d+|[(){}:;,=+-]")
 LONGEST = 60
 FUEL = "4000"
+FUEL_OF_ALARMS = "20000"
 
 
 # Structures of a definition
@@ -162,11 +163,21 @@ class Runner:
         self.seen = {}
 
     def place_in(self, program, script):
-        """The place of the fault that another program has on a script, or None."""
+        """The kind and the place of the fault that a program has on a script, or None."""
         with tempfile.TemporaryDirectory(prefix="memcad-c-") as folder:
             self.files(folder, program)
-            found = re.match(r"fault: (\w+) at (\d+):(\d+)", self.run(folder, script))
+            found = re.match(r"fault: (\w+) at (\d+):(\d+)", self.run(folder, script, FUEL_OF_ALARMS))
             return (found[1], int(found[2]), int(found[3])) if found else None
+
+    def faults_of(self, alarms):
+        """The faults of the alarms that come with a script, one for each place, those with short scripts first."""
+        faults = {}
+        for it in sorted((it for it in alarms if it.script is not None), key=lambda it: len(it.script)):
+            if it.place not in faults:
+                found = self.place_in(self.program, it.script)
+                if found:
+                    faults[it.place] = Fault(*found, it.script)
+        return list(faults.values())
 
     def files(self, folder, program):
         for name, text in (("p.c", program), ("p.d", self.definitions)):
@@ -231,10 +242,10 @@ class Runner:
         made = maker.make(name, [cell, *[Cell(0) for _ in range(arity)]], generator.choice([0, 1, 3]))
         return maker.line(cell) if made else None
 
-    def run(self, folder, script):
+    def run(self, folder, script, fuel=FUEL):
         with open(os.path.join(folder, "p.s"), "w", encoding="utf-8") as file:
             file.writelines(json.dumps(it, separators=(",", ":")) + "\n" for it in script)
-        return self.engine.command(folder, "run", "p.c", "p.d", "p.s", "--fuel", FUEL).stdout
+        return self.engine.command(folder, "run", "p.c", "p.d", "p.s", "--fuel", fuel).stdout
 
 
 def commands_of(text):

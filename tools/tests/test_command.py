@@ -50,8 +50,8 @@ def test_bugs_are_found_at_their_lines(name):
 def test_alarms_look_like_a_compilers(capsys):
     status, text = said(capsys, EXAMPLE, "-q")
     assert status == 1
-    assert f"{EXAMPLE}:11:5: error: 'it' may be null here (from malloc at 10:18) [null-deref]" in text
-    assert "queue.c:30:12: error: 'q.head' may point to freed memory here [use-after-free]" in text
+    assert f"{EXAMPLE}:11:5: error: 'it' is null here (from malloc at 10:18) [null-deref]" in text
+    assert "queue.c:30:12: error: 'q.head' points to freed memory here [use-after-free]" in text
     assert "   11 |     it->value = value;\n      |     ^\n" in text
     assert text.endswith("queue.c: 2 errors\n")
 
