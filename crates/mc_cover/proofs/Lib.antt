@@ -13,4 +13,5 @@ mod Rules
 mod Guessing
 mod Enough
 mod Near
+mod Alike
 pub mod SearchLemmas

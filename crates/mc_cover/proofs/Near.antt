@@ -163,7 +163,7 @@ module _ (w : Setting) (high : ℕ) (ascend : IdsAscend 0 w.edges high) (g : Goa
         both (flat_map (marks_with place rule) (blocks_for (ids_of nearby) rule.block)) (flat_map (marks_with place rule) (blocks_for (ids_of w.edges) rule.block)) (marks_of_rules (ids_of nearby) (suc place) rules) (marks_of_rules (ids_of w.edges) (suc place) rules)
         (blocks place rule rule.block) (by_rules rules (suc place))
 
-    near_options : options (near_space w) g log ≡ options (space w) g log
+    pub near_options : options (near_space w) g log ≡ options (space w) g log
     unfolding options
     near_options =
         let rules = rules_of (def_at w g) in

@@ -2,6 +2,7 @@ pub mod Terms
 pub mod Goals
 pub mod Marks
 pub mod Near
+pub mod Alike
 pub mod First
 pub mod Guessed
 pub mod Laws

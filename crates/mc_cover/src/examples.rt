@@ -1,11 +1,12 @@
 // The first covers and guesses of small states, worked out by hand.
-ghost use Rattle.std.specs.Prelude.{◌≡◌, pos, Some, None, [], ◌∷◌};
+ghost use Rattle.std.specs.Prelude.{◌≡◌, true, false, pos, Some, None, [], ◌∷◌};
 ghost use Rattle.mc_flow.specs.Defs.Examples.{defs, list_id, lenlist_id, tree_id};
-ghost use Rattle.mc_state.specs.declared.graph.edge.Edge.TheVariants.{Ind};
+ghost use Rattle.mc_state.specs.declared.graph.edge.Edge.TheVariants.{Ind, Seg};
 ghost use Rattle.mc_pure.specs.Examples.{node};
 ghost use Rattle.mc_state.specs.CoverExamples.{at, entry, other_list, rest_list, lone_pointer};
 ghost use Rattle.mc_state.specs.CoverExamples.{cell_and_list, cell_and_length, fork_and_tree, shared_tree};
 ghost use Rattle.mc_state.specs.Terms.{plus, zero_term};
+ghost use Rattle.mc_cover.specs.Alike.{are_alike};
 ghost use Rattle.mc_cover.specs.Examples.{knowing, taking, of_length, of_fork, two_ways, long_way, behind};
 ghost use Rattle.mc_cover.specs.First.{first_cover, first_seg_cover};
 ghost use Rattle.mc_cover.specs.Guessed.{guess};
@@ -34,6 +35,13 @@ pub fn example_segments()
         [] cell_and_list.graph.edges ≡ taking (0 ∷ []) (entry 1 rest_list ∷ []) }
     ensures through_left { first_seg_cover of_fork defs tree_id (at 1) [] (at 2) [] fork_and_tree.graph.edges
         ≡ taking (1 ∷ []) (entry 0 other_list ∷ entry 2 (Ind (node 2) tree_id []) ∷ []) }
+{}
+
+/// Segments from one node to one other are alike; one with another end is not, and neither is an Ind.
+pub fn example_alike()
+    ensures alike { are_alike (knowing two_ways []) long_way long_way ≡ true }
+    ensures other_end { are_alike (knowing two_ways []) long_way (Seg (node 1) [] list_id (node 1) []) ≡ false }
+    ensures ind { are_alike (knowing two_ways []) (Ind (node 1) list_id []) long_way ≡ false }
 {}
 
 /// The length of a list is one more than that of the list after its first cell, that of an edge

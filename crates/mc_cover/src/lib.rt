@@ -9,6 +9,6 @@ mod goals;
 mod laws;
 pub mod search;
 
-pub use examples::{example_firsts, example_guesses, example_segments, no_firsts};
+pub use examples::{example_alike, example_firsts, example_guesses, example_segments, no_firsts};
 pub use goals::{Goal, Mark};
 pub use laws::{firsts_are_covers, guess_is_the_guess, near_is_first, none_is_missed};

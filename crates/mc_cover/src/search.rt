@@ -3,8 +3,9 @@
 //! What is looked for is a goal. It is met by an edge at an equal node or by a rule of its predicate, with the block that
 //! is there; what that leaves are goals again. `mc_shape_search::tries` searches, with a stack of its own, over edges that start where
 //! the goal stands. The answer is the list of marks, each after the one that it stands in, with the edges in their order
-//! of use.
+//! of use. Of edges that are alike and not used only the first is tried (`alike`): what a later one would meet, it meets.
 
+mod alike;
 mod contents;
 mod edges;
 mod find;

@@ -1,3 +1,4 @@
 pub mod Arena
-pub mod Stack
 pub mod Times
+pub mod Thin
+pub mod Stack

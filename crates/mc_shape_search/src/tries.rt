@@ -4,12 +4,13 @@
 //! Lists of goals share an arena of cells. What is still to be tried is a stack of marks, each with the goals after it
 //! and with how much of the log stands before it; going back is cutting the log.
 
-ghost use Rattle.std.specs.Prelude.{◌≡◌, ◌∷◌, ◌++◌, ◌-◌, ◌≤◌, ◌<◌, ℕ, List, Option, [], Some, None, true, false, IfOk, MatchOption, length, reverse, take, option_map, slice_get};
+ghost use Rattle.std.specs.Prelude.{◌≡◌, ◌∷◌, ◌++◌, ◌-◌, ◌≤◌, ◌<◌, ◌⊎◌, ℕ, List, Option, [], Some, None, true, false, IfOk, IsTrue, MatchOption, length, reverse, take, option_map, slice_get};
 ghost use Rattle.std.specs.Option.{option_copied};
 ghost use Rattle.std.specs.Ordering.{nat_cmp};
 ghost use Rattle.std.specs.BTreeMap as tree;
 ghost use Rattle.mc_shape_search.specs.Search.Search.{Space, uses, takes_this, is_unused, is_free, tries, first_try};
-ghost use Rattle.mc_shape_search.specs.Tries.Stack.{enough, goals_at, IsArena, Pushes, IsStack, tries_of, Opens};
+ghost use Rattle.mc_shape_search.specs.Tries.Stack.{enough, goals_at, IsArena, Pushes, IsStack, tries_of};
+ghost use Rattle.mc_shape_search.specs.Tries.Thin.{StandsFor, IsSpare, Opens};
 ghost use Rattle.mc_shape_search.specs.Tries.Times.{HasTimes, SetsPlace};
 
 use std::alloc::{AllocError, Global};
@@ -49,6 +50,11 @@ pub trait Problem {
     /// What the mark takes, if it takes anything.
     fn taken(&self, mark: Self::Mark) -> Option<u64>
         ensures { result ≡ (space self.now).takes mark };
+
+    /// Whether the first mark stands for the second: what the second meets, the first meets where what it takes is
+    /// unused. Such a second need not be tried after the first.
+    fn stands_for(&self, one: Self::Mark, other: Self::Mark) -> bool
+        ensures { IsTrue result → StandsFor (space self.now) one other };
 
     /// Pushes the goals that the mark leaves, and None exactly where the mark does not fit.
     fn push_calls(
@@ -142,7 +148,62 @@ fn is_unused<P: Problem>(
     }
 }
 
-// Pushes the marks that apply to a goal, the first of them on top.
+// Whether a mark stands for another, and takes nothing that was taken.
+fn replaces<P: Problem>(
+    problem: &P,
+    log: &[P::Mark],
+    times: &BTreeMap<u64, usize>,
+    one: P::Mark,
+    other: P::Mark,
+) -> bool
+    requires { HasTimes (P.space problem.now).takes log.now (tree.get nat_cmp times.now) }
+    ensures stands { IsTrue result → StandsFor (P.space problem.now) one other }
+    ensures free { IsTrue result → is_free (P.space problem.now).takes log.now one ≡ true }
+{
+    problem.stands_for(one, other) && is_unused(problem, log, times, problem.taken(one))
+}
+
+// Whether the mark at a place may be left out, since an earlier one stands for it.
+fn is_spare<P: Problem>(
+    problem: &P,
+    log: &[P::Mark],
+    times: &BTreeMap<u64, usize>,
+    all: &[P::Mark],
+    place: usize,
+    mark: P::Mark,
+) -> bool
+    requires times { HasTimes (P.space problem.now).takes log.now (tree.get nat_cmp times.now) }
+    requires within { place ≤ length all.now }
+    ensures { IsTrue result → IsSpare (P.space problem.now) (take place all.now) log.now mark }
+{
+    for j in 0..place {
+        if replaces(problem, log, times, all[j], mark) {
+            return true;
+        }
+    }
+    false
+}
+
+// Whether the mark at a place is to be tried: what it takes is unused, and no earlier one stands for it.
+fn is_wanted<P: Problem>(
+    problem: &P,
+    log: &[P::Mark],
+    times: &BTreeMap<u64, usize>,
+    all: &[P::Mark],
+    place: usize,
+    mark: P::Mark,
+) -> bool
+    requires times { HasTimes (P.space problem.now).takes log.now (tree.get nat_cmp times.now) }
+    requires within { place ≤ length all.now }
+    ensures free { IsTrue result → is_free (P.space problem.now).takes log.now mark ≡ true }
+    ensures spare { result ≡ false → (is_free (P.space problem.now).takes log.now mark ≡ false)
+        ⊎ IsSpare (P.space problem.now) (take place all.now) log.now mark }
+{
+    is_unused(problem, log, times, problem.taken(mark))
+        && !is_spare(problem, log, times, all, place, mark)
+}
+
+// Pushes the marks of a goal that are to be tried and apply, the first of them on top.
 fn push_marks<P: Problem>(
     alloc: Global,
     problem: &P,
@@ -171,7 +232,7 @@ fn push_marks<P: Problem>(
     while i > 0 {
         i -= 1;
         let mark = all[i];
-        if is_unused(problem, log, times, problem.taken(mark)) {
+        if is_wanted(problem, log, times, &all, i, mark) {
             if let Some(goals) = problem.push_calls(alloc, cells, goal, mark, next)? {
                 pending.push(Pending {
                     mark,

@@ -2,6 +2,7 @@
 ghost use Rattle.mc_cover.specs.Search.Told.{IsTold, told_once};
 ghost use Rattle.mc_state.specs.Facts.{IsFalse};
 
+use crate::search::alike::marks_alike;
 use crate::search::laws::is_told;
 use crate::search::marks::{edge_number, marks_of, push_mark};
 use crate::search::pushing::copied_stop;
@@ -49,6 +50,12 @@ impl<'a> Problem for Search<'a> {
 
     fn taken(&self, mark: Mark) -> Option<u64> {
         edge_number(mark)
+    }
+
+    fn stands_for(&self, one: Mark, other: Mark) -> bool {
+        is_told(self.state);
+        self.state.is_bounded();
+        marks_alike(self.state, self.used, one, other)
     }
 
     fn push_calls(

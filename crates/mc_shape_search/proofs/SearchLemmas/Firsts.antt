@@ -5,12 +5,12 @@ use Rattle.mc_shape_search.specs.Search.Met.{IsIn, IsMet, Leads, AllLeaveFew}
 use Rattle.mc_shape_search.proofs.SearchLemmas.Bound.{bound}
 use Rattle.mc_shape_search.proofs.SearchLemmas.Tries.{leads_by_try, try_by_leads, leads_within, met_by_leads, LeadsOn}
 
-first_in : {X : Type 0} (xs : List (Option X)) (x : X) → first xs ≡ Some x → IsIn (Some x) xs
+pub first_in : {X : Type 0} (xs : List (Option X)) (x : X) → first xs ≡ Some x → IsIn (Some x) xs
 first_in [] x e = cc
 first_in (None ∷ xs) x e = inr (first_in xs x e)
 first_in (Some y ∷ xs) x e = inl (sym e)
 
-first_out : {X : Type 0} (xs : List (Option X)) (x : X) → first xs ≡ None → IsIn (Some x) xs → ⊥
+pub first_out : {X : Type 0} (xs : List (Option X)) (x : X) → first xs ≡ None → IsIn (Some x) xs → ⊥
 first_out [] x e h = elim h [ ]
 first_out (None ∷ xs) x e (inl h) = cc
 first_out (None ∷ xs) x e (inr h) = first_out xs x e h

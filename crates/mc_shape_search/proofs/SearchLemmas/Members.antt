@@ -35,7 +35,7 @@ from_flat_map f (x ∷ xs) y h =
       | inr b ↦ (let r = from_flat_map f xs y b in (r.0, inr r.1, r.2))
     ]
 
-bool_cases : (b : Bool) → (b ≡ true) ⊎ (b ≡ false)
+pub bool_cases : (b : Bool) → (b ≡ true) ⊎ (b ≡ false)
 bool_cases true = inl refl
 bool_cases false = inr refl
 

@@ -8,12 +8,8 @@ use Rattle.mc_shape_search.specs.declared.tries.Pending.{Pending}
 use Rattle.mc_shape_search.specs.Search.Search.{Space, tries, options, ended, first, first_try, is_free, applies}
 use Rattle.mc_shape_search.proofs.TriesLemmas.Arena.{at_zero}
 use Rattle.mc_shape_search.specs.Tries.Stack.{enough, goals_at, IsReady, IsStack, Grows, Pushes, tries_of_one, tries_of, branch}
-
--- one more mark before those that were gone through
-filter_step : {X M : Type 0} (F : M → List X) (p : M → Bool) (now later : List M) (m : M) → now ≡ m ∷ later → p m ≡ true → flat_map F (filter p now) ≡ F m ++ flat_map F (filter p later)
-filter_step F p now later m e t =
-    let s : filter p (m ∷ later) ≡ m ∷ filter p later = rw (t, filter) in
-    ap (λ l. flat_map F (filter p l)) e ∙ ap (flat_map F) s
+use Rattle.mc_shape_search.specs.Tries.Thin.{Thins}
+use Rattle.mc_shape_search.proofs.TriesLemmas.Thin.{thin_same}
 
 -- what fits a word is less than any limit that is enough
 pub within_limit : (n limit : ℕ) → n < 2 ^ 64 → enough ≤ limit → n < limit
@@ -74,28 +70,6 @@ module _ (G M : Type 0) (takes : M → Option ℕ) where
       let m : length a ≤ length b = g.more in
       (k, omega arith, ap (λ l. is_free takes l p.mark) (ap (λ n. take n log) e ∙ take-length log) ∙ f, rw e (IsStack-grows log (length a) (length b) (length log) ps m s))
 
-  pub taken : (w : Space G M) (limit : ℕ) (log now later : List M) (g : G) (gs : List G) (m : M) (a b : List (Cell G)) (ps qs : List (Pending M)) (rest top : ℕ) (olds : List (Option (List M))) → Pushes (w.calls g m) a b rest top → IsStack takes log (length a) (length log) (reverse ps) → goals_at a rest ≡ gs
-      → qs ≡ ps ++ record { mark = m; goals = top; height = length log } ∷ [] → now ≡ m ∷ later → applies w g log m ≡ true
-      → tries_of w limit a log (reverse ps) ≡ flat_map (branch w (limit - suc (length log)) g gs log) (filter (applies w g log) later) ++ olds
-      → tries_of w limit b log (reverse qs) ≡ flat_map (branch w (limit - suc (length log)) g gs log) (filter (applies w g log) now) ++ olds
-  taken w limit log now later g gs m a b ps qs rest top olds p s e q x t was =
-      let F = branch w (limit - suc (length log)) g gs log in
-      let P : Pending M = record { mark = m; goals = top; height = length log } in
-      let r : reverse qs ≡ P ∷ reverse ps = ap reverse q ∙ reverse-append ps (P ∷ []) in
-      ap (tries_of w limit b log) r
-      ∙ (tries_of-push w limit log g gs m a b (reverse ps) rest top p s e
-      ∙ (ap (λ l. F m ++ l) was
-      ∙ (sym (append_assoc (F m) (flat_map F (filter (applies w g log) later)) olds)
-      ∙ ap (λ l. l ++ olds) (sym (filter_step F (applies w g log) now later m x t)))))
-
-  -- a mark that does not apply
-  pub skipped : (w : Space G M) (n : ℕ) (log now later : List M) (g : G) (gs : List G) (m : M) (olds news : List (Option (List M))) → now ≡ m ∷ later → applies w g log m ≡ false
-      → news ≡ flat_map (branch w n g gs log) (filter (applies w g log) later) ++ olds
-      → news ≡ flat_map (branch w n g gs log) (filter (applies w g log) now) ++ olds
-  skipped w n log now later g gs m olds news x t was =
-      let s : filter (applies w g log) (m ∷ later) ≡ filter (applies w g log) later = rw (t, filter) in
-      was ∙ ap (λ l. flat_map (branch w n g gs log) l ++ olds) (sym s ∙ ap (filter (applies w g log)) (sym x))
-
   -- what is tried where the log is as long as it may be
   pub tries-full : (w : Space G M) (n : ℕ) (gs : List G) (g : G) (rest : List G) (log : List M) → n ≡ 0 → gs ≡ g ∷ rest → tries w n gs log ≡ None ∷ []
   unfolding tries
@@ -140,19 +114,19 @@ module _ (G M : Type 0) (takes : M → Option ℕ) where
       ap first (p.tried ∙ ap (λ l. l ++ tries_of w limit cs more qs) d)
 
   -- no goal is left, but the log may not end the search
-  pub not-ended : (w : Space G M) (limit : ℕ) (cs : List (Cell G)) (more : List M) (goals : ℕ) (qs : List (Pending M)) → goals ≡ 0 → w.ends more ≡ false → None ∷ tries_of w limit cs more qs ≡ tries w (limit - length more) (goals_at cs goals) more ++ tries_of w limit cs more qs
+  pub not-ended : (w : Space G M) (limit : ℕ) (cs : List (Cell G)) (more : List M) (goals : ℕ) (qs : List (Pending M)) → goals ≡ 0 → w.ends more ≡ false → Thins (None ∷ tries_of w limit cs more qs) (tries w (limit - length more) (goals_at cs goals) more ++ tries_of w limit cs more qs)
   not-ended w limit cs more goals qs e t =
       let d : tries w (limit - length more) (goals_at cs goals) more ≡ None ∷ [] = tries-done w (limit - length more) (goals_at cs goals) more (ap (goals_at cs) e ∙ at_zero G cs) ∙ ap (λ b. ended b more ∷ []) t in
-      ap (λ l. l ++ tries_of w limit cs more qs) (sym d)
+      thin_same (None ∷ tries_of w limit cs more qs) (tries w (limit - length more) (goals_at cs goals) more ++ tries_of w limit cs more qs) (ap (λ l. l ++ tries_of w limit cs more qs) (sym d))
 
   -- the goals of a new arena: the first alone
   pub first-started : (w : Space G M) (limit : ℕ) (g : G) (cells now : List (Cell G)) (top : ℕ) (log : List M) (none new : List (Pending M)) → none ≡ [] → log ≡ [] → Pushes (g ∷ []) [] cells 0 top
-      → None ∷ tries_of w limit now log new ≡ tries w (limit - length log) (goals_at cells top) log ++ tries_of w limit cells log none → first (tries_of w limit now log new) ≡ first_try w limit g
+      → Thins (None ∷ tries_of w limit now log new) (tries w (limit - length log) (goals_at cells top) log ++ tries_of w limit cells log none) → first (tries_of w limit now log new) ≡ first_try w limit g
   unfolding tries_of
   first-started w limit g cells now top log none new n l p e =
       let z : limit - length log ≡ limit = (let q : length log ≡ 0 = ap length l in omega arith) in
       let gs : goals_at cells top ≡ g ∷ [] = p.goals in
-      ap first e ∙ (ap (λ x. first (tries w x (goals_at cells top) log ++ tries_of w limit cells log none)) z ∙ rw (gs, n, l, append-nil (tries w limit (g ∷ []) [])))
+      e.first ∙ (ap (λ x. first (tries w x (goals_at cells top) log ++ tries_of w limit cells log none)) z ∙ rw (gs, n, l, append-nil (tries w limit (g ∷ []) [])))
 
   -- and the rest is tried
   pub record Stepped (w : Space G M) (limit : ℕ) (now : List (Cell G)) (cs : List (Cell G)) (log more : List M) (ps rs : List (Pending M)) : Type 0 where
@@ -160,11 +134,11 @@ module _ (G M : Type 0) (takes : M → Option ℕ) where
     pub fewer : length (tries_of w limit now more rs) < length (tries_of w limit cs log ps)
 
   pub stepped : (w : Space G M) (limit : ℕ) (cs now : List (Cell G)) (log more : List M) (next : Pending M) (ps qs rs : List (Pending M)) → Popped w limit cs log more next ps qs
-      → None ∷ tries_of w limit now more rs ≡ tries w (limit - length more) (goals_at cs next.goals) more ++ tries_of w limit cs more qs → Stepped w limit now cs log more ps rs
+      → Thins (None ∷ tries_of w limit now more rs) (tries w (limit - length more) (goals_at cs next.goals) more ++ tries_of w limit cs more qs) → Stepped w limit now cs log more ps rs
   stepped w limit cs now log more next ps qs rs p e =
-      let t : None ∷ tries_of w limit now more rs ≡ tries_of w limit cs log ps = e ∙ sym p.tried in
-      let n : suc (length (tries_of w limit now more rs)) ≡ length (tries_of w limit cs log ps) = ap length t in
-      record { same = ap first t; fewer = omega arith }
+      let n : suc (length (tries_of w limit now more rs)) ≤ length (tries w (limit - length more) (goals_at cs next.goals) more ++ tries_of w limit cs more qs) = e.count in
+      let k : length (tries_of w limit cs log ps) ≡ length (tries w (limit - length more) (goals_at cs next.goals) more ++ tries_of w limit cs more qs) = ap length p.tried in
+      record { same = e.first ∙ sym (ap first p.tried); fewer = omega arith }
 
   -- nothing is left to try
   pub first-none : (w : Space G M) (limit : ℕ) (cs : List (Cell G)) (log : List M) (ps : List (Pending M)) → ps ≡ [] → first (tries_of w limit cs log ps) ≡ None

@@ -55,10 +55,3 @@ tries_of w limit cells log ps = flat_map (tries_of_one w limit cells log) ps
 -- the tries after one mark of a goal
 abbrev pub branch : {G M : Type 0} → Space G M → ℕ → G → List G → List M → M → List (Option (List M))
 branch w n g gs log m = tries w n (w.calls g m ++ gs) (log ++ m ∷ [])
-
--- where the log leaves room, a failure and what is left to try are the tries of these goals, and then what was left before
-abbrev pub Opens :
-    {G M : Type 0} → Space G M → List G → List M → List (Cell G) → List (Pending M) → List (Cell G) → List (Pending M) → Type 0
-Opens w goals log cells before more now =
-    (limit : ℕ) → length log < limit
-    → None ∷ tries_of w limit more log now ≡ tries w (limit - length log) goals log ++ tries_of w limit cells log before

@@ -196,6 +196,10 @@ impl<'a> Problem for HeapSearch<'a> {
         mark.block
     }
 
+    fn stands_for(&self, one: Mark, other: Mark) -> bool {
+        false
+    }
+
     fn push_calls(
         &self,
         alloc: Global,

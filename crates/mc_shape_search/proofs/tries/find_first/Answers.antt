@@ -3,6 +3,7 @@ use Rattle.std.specs.Ordering.{nat_cmp}
 use Rattle.std.specs.BTreeMap as tree
 use Rattle.mc_shape_search.specs.Search.Search.{tries}
 use Rattle.mc_shape_search.specs.Tries.Stack.{enough, goals_at, tries_of, IsStack, Pushes}
+use Rattle.mc_shape_search.specs.Tries.Thin.{Thins}
 use Rattle.mc_shape_search.proofs.TriesLemmas.Stack.{popped, first-found, first-started, stepped, first-none, not-ended, within_limit, within_enough}
 use Rattle.mc_shape_search.proofs.TriesLemmas.Times.{HasTimes-none}
 use Rattle.mc_shape_search.proofs.tries.find_first.Goals as goals
@@ -26,7 +27,7 @@ loop-next-init g c =
       times = HasTimes-none _ w.takes c.new-log.result.items (tree.get nat_cmp c.new-times.result) n;
       same = λ limit far.
           first-started _ _ w.takes w limit c.args.goal (reverse c.push_goal.new.cells.items) (reverse c.expand.new.cells.items) c.in_ok-top.top c.new-log.result.items (reverse c.new-pending.result.items) (reverse c.expand.new.pending.items) (ap reverse q) n (rw m at p)
-          (let t : None ∷ tries_of w limit (reverse c.expand.new.cells.items) c.deref.result.now (reverse c.expand.new.pending.items) ≡ tries w (limit - length c.deref.result.now) (goals_at (reverse c.push_goal.new.cells.items) c.in_ok-top.top) c.deref.result.now ++ tries_of w limit (reverse c.push_goal.new.cells.items) c.deref.result.now (reverse c.new-pending.result.items) = c.in_ok-expand.ensures.tried limit (within_limit (length c.deref.result.now) limit none far) in rw d at t);
+          (let t : Thins (None ∷ tries_of w limit (reverse c.expand.new.cells.items) c.deref.result.now (reverse c.expand.new.pending.items)) (tries w (limit - length c.deref.result.now) (goals_at (reverse c.push_goal.new.cells.items) c.in_ok-top.top) c.deref.result.now ++ tries_of w limit (reverse c.push_goal.new.cells.items) c.deref.result.now (reverse c.new-pending.result.items)) = c.in_ok-expand.ensures.tried limit (within_limit (length c.deref.result.now) limit none far) in rw d at t);
     }
 
 pub returns-then-may_end : goals.returns-then-may_end
@@ -73,7 +74,7 @@ loop-next-smaller g c =
     let short : length c.deref-else-next-eq0.result.now < 2 ^ 64 = omega (arith, c.deref-else-next-eq0.ensures.len, c.cut_log.new.log.ok.0) in
     (stepped _ _ w.takes w enough cs (reverse c.expand-else-next-eq0.new.cells.items) c.loop-next.log.items c.cut_log.new.log.items c.in-Some.next (reverse c.loop-next.pending.items) (reverse c.take_next.new.pending.items) (reverse c.expand-else-next-eq0.new.pending.items)
     (popped _ _ w.takes w enough cs c.loop-next.log.items c.cut_log.new.log.items c.in-Some.next (reverse c.loop-next.pending.items) (reverse c.take_next.new.pending.items) c.in-Some.ensures c.loop-next.invariant.stack c.in_ok-cut_log.ensures.log)
-    (let t : None ∷ tries_of w enough (reverse c.expand-else-next-eq0.new.cells.items) c.deref-else-next-eq0.result.now (reverse c.expand-else-next-eq0.new.pending.items) ≡ tries w (enough - length c.deref-else-next-eq0.result.now) (goals_at cs c.in-Some.next.goals) c.deref-else-next-eq0.result.now ++ tries_of w enough cs c.deref-else-next-eq0.result.now (reverse c.take_next.new.pending.items) = c.in_ok-expand-2.ensures.tried enough (within_enough (length c.deref-else-next-eq0.result.now) short) in rw d at t)).fewer
+    (let t : Thins (None ∷ tries_of w enough (reverse c.expand-else-next-eq0.new.cells.items) c.deref-else-next-eq0.result.now (reverse c.expand-else-next-eq0.new.pending.items)) (tries w (enough - length c.deref-else-next-eq0.result.now) (goals_at cs c.in-Some.next.goals) c.deref-else-next-eq0.result.now ++ tries_of w enough cs c.deref-else-next-eq0.result.now (reverse c.take_next.new.pending.items)) = c.in_ok-expand-2.ensures.tried enough (within_enough (length c.deref-else-next-eq0.result.now) short) in rw d at t)).fewer
 
 pub loop-next-preserved : goals.loop-next-preserved
 loop-next-preserved g c =
@@ -89,7 +90,7 @@ loop-next-preserved g c =
       same = λ limit far.
           (stepped _ _ w.takes w limit cs (reverse c.expand-else-next-eq0.new.cells.items) c.loop-next.log.items c.cut_log.new.log.items c.in-Some.next (reverse c.loop-next.pending.items) (reverse c.take_next.new.pending.items) (reverse c.expand-else-next-eq0.new.pending.items)
           (popped _ _ w.takes w limit cs c.loop-next.log.items c.cut_log.new.log.items c.in-Some.next (reverse c.loop-next.pending.items) (reverse c.take_next.new.pending.items) c.in-Some.ensures c.loop-next.invariant.stack c.in_ok-cut_log.ensures.log)
-          (let t : None ∷ tries_of w limit (reverse c.expand-else-next-eq0.new.cells.items) c.deref-else-next-eq0.result.now (reverse c.expand-else-next-eq0.new.pending.items) ≡ tries w (limit - length c.deref-else-next-eq0.result.now) (goals_at cs c.in-Some.next.goals) c.deref-else-next-eq0.result.now ++ tries_of w limit cs c.deref-else-next-eq0.result.now (reverse c.take_next.new.pending.items) = c.in_ok-expand-2.ensures.tried limit (within_limit (length c.deref-else-next-eq0.result.now) limit short far) in rw d at t)).same ∙ c.loop-next.invariant.same limit far;
+          (let t : Thins (None ∷ tries_of w limit (reverse c.expand-else-next-eq0.new.cells.items) c.deref-else-next-eq0.result.now (reverse c.expand-else-next-eq0.new.pending.items)) (tries w (limit - length c.deref-else-next-eq0.result.now) (goals_at cs c.in-Some.next.goals) c.deref-else-next-eq0.result.now ++ tries_of w limit cs c.deref-else-next-eq0.result.now (reverse c.take_next.new.pending.items)) = c.in_ok-expand-2.ensures.tried limit (within_limit (length c.deref-else-next-eq0.result.now) limit short far) in rw d at t)).same ∙ c.loop-next.invariant.same limit far;
     }
 
 pub returns : goals.returns

@@ -1,7 +1,7 @@
-use Rattle.std.proofs.Common.{◌≡◌, ℕ, ◌++◌, ◌-◌, ◌≤◌, suc, length, reverse, drop}
-use Rattle.std.specs.List.{filter, flat_map}
-use Rattle.mc_shape_search.specs.Search.Search.{applies}
-use Rattle.mc_shape_search.specs.Tries.Stack.{Grows, IsStack, goals_at, tries_of, branch}
+use Rattle.std.proofs.Common.{◌≡◌, ℕ, ◌++◌, ◌-◌, ◌≤◌, suc, length, reverse, take}
+use Rattle.mc_shape_search.specs.Tries.Stack.{Grows, IsStack, goals_at, tries_of}
+use Rattle.mc_shape_search.specs.Tries.Thin.{Thins}
+use Rattle.mc_shape_search.proofs.TriesLemmas.Thin.{by}
 use Rattle.mc_shape_search.proofs.tries.push_marks.Given as goal
 
 abbrev pub invariant-loop-i : goal.invariant-loop-i
@@ -13,9 +13,8 @@ invariant-loop-i g l =
       within : l.i ≤ length l.all.items;
       grows : Grows old now;
       stack : IsStack w.takes l.log (length now) (length l.log) (reverse l.pending.items);
-      tried : (limit : ℕ) → tries_of w limit now l.log (reverse l.pending.items)
-          ≡ flat_map (branch w (limit - suc (length l.log)) l.goal (goals_at old l.next) l.log) (filter (applies w l.goal l.log) (drop l.i l.all.items))
-          ++ tries_of w limit old l.log (reverse l.fn.pending.items);
+      tried : (limit : ℕ) → Thins (by w (limit - suc (length l.log)) l.goal (goals_at old l.next) l.log (take l.i l.all.items) ++ tries_of w limit now l.log (reverse l.pending.items))
+          (by w (limit - suc (length l.log)) l.goal (goals_at old l.next) l.log l.all.items ++ tries_of w limit old l.log (reverse l.fn.pending.items));
       high : l.height ≡ length l.log;
     }
 
