@@ -7,24 +7,41 @@ ghost use Rattle.mc_find.specs.Analysis.Findings.{IsProposed};
 
 use crate::accepted::{is_found, reported};
 use crate::analysis::Proposed;
+use crate::finding::all_steps;
 use crate::rank::Rank;
 use crate::walks::{Aim, Attempt, Blocked, Limits, Rung, Step, Style, Task, first_rung};
 use mc_base::NoMemory;
 use mc_lines::cert::{Form, Line};
 use std::alloc::Global;
 
-/// How many lines the first walk may take.
+/// How many steps the first walk may take, if these are not more: so many for each point.
 const FIRST: u64 = 2_000;
 
-/// How many attempts may take all their lines.
+/// How many steps the first walk may take for each point.
+const FIRST_EACH: u64 = 20;
+
+/// How many steps an attempt may take, if these are not more: so many for each point.
+const STEPS: u64 = 20_000;
+
+/// How many steps an attempt may take for each point.
+const STEPS_EACH: u64 = 100;
+
+/// How many attempts may take all their steps.
 const WHOLE: u64 = 4;
+
+/// So many steps, or so many for each point.
+fn at_least(task: Task<'_>, steps: u64, each: u64) -> u64 {
+    (task.graph.size() as u64).saturating_mul(each).max(steps)
+}
 
 /// How an attempt folds that goes so far and has so many heads at a cut, which lose what arrivals lack.
 const fn losing(step: Step, heads: usize) -> Style {
     Style {
-        before: 0,
-        room: 0,
-        rung: Rung { step, loses: true },
+        rung: Rung {
+            step,
+            loses: true,
+            is_blind: false,
+        },
         heads,
         nulls: false,
     }
@@ -33,8 +50,6 @@ const fn losing(step: Step, heads: usize) -> Style {
 /// How an attempt folds that climbs the ladder.
 const fn climbing() -> Style {
     Style {
-        before: 0,
-        room: 0,
         rung: first_rung(Step::Plain),
         heads: 4,
         nulls: false,
@@ -44,8 +59,6 @@ const fn climbing() -> Style {
 /// How an attempt folds that fits states to heads at once, null to structures too.
 const fn gathering() -> Style {
     Style {
-        before: 0,
-        room: 0,
         rung: first_rung(Step::Match),
         heads: 0,
         nulls: true,
@@ -71,18 +84,16 @@ pub fn first_faults(alloc: Global, task: Task<'_>) -> Result<Vec<Blocked>, NoMem
     requires { IsValid task.sight.flow.now task.sight.defs.now }
 {
     let limits = Limits {
-        lines: FIRST,
         keys: usize::MAX,
         rounds: u64::MAX,
+        merge: false,
     };
     let style = Style {
-        before: 0,
-        room: 0,
         rung: first_rung(Step::Plain),
         heads: 0,
         nulls: false,
     };
-    let mut attempt = Attempt::new(alloc, task, Aim::Faults, style, limits)?;
+    let mut attempt = Attempt::new(alloc, task, Aim::Faults, style, limits, at_least(task, FIRST, FIRST_EACH))?;
     attempt.run()?;
     let (places, _) = attempt.blocked()?;
     Ok(places)
@@ -149,7 +160,28 @@ fn offered(
     }
 }
 
-/// One attempt, for which at most so many lines are left; what it takes is left no more. What it proposes, where that is
+/// What an attempt proposes that is whole, where that is better than the best before.
+fn compared(
+    alloc: Global,
+    task: Task<'_>,
+    attempt: Attempt<'_>,
+    faults: &[Blocked],
+    best: &Option<Offer>,
+) -> Result<Option<Offer>, NoMemory>
+    requires { IsValid task.sight.flow.now task.sight.defs.now }
+    ensures { IfOk result (λ found. IfSome found (λ offer. IsProposed task.entry.sight.flow.now task.entry.sight.defs.now offer.proposed)) }
+{
+    let rank = Rank::of(&attempt, faults)?;
+    if !is_better(&rank, best) {
+        return Ok(None);
+    }
+    match offered(alloc, task, attempt, rank)? {
+        Some(proposed) => Ok(Some(Offer { proposed, rank })),
+        None => Ok(None),
+    }
+}
+
+/// One attempt, for which at most so many steps are left; what it takes is left no more. What it proposes, where that is
 /// better than the best before.
 fn try_one(
     alloc: Global,
@@ -163,25 +195,34 @@ fn try_one(
     requires { IsValid task.sight.flow.now task.sight.defs.now }
     ensures { IfOk result (λ found. IfSome found (λ offer. IsProposed task.entry.sight.flow.now task.entry.sight.defs.now offer.proposed)) }
 {
-    let own = Limits {
-        lines: limits.lines.min(*left),
-        keys: limits.keys,
-        rounds: limits.rounds,
-    };
-    let mut attempt = Attempt::new(alloc, task, Aim::Chain, style, own)?;
+    let steps = at_least(task, STEPS, STEPS_EACH).min(*left);
+    let mut attempt = Attempt::new(alloc, task, Aim::Chain, style, limits, steps)?;
     let is_whole = attempt.run()?;
-    *left = left.saturating_sub(attempt.taken);
-    if !is_whole {
-        return Ok(None);
+    *left = left.saturating_sub(steps.saturating_sub(attempt.left()));
+    if is_whole {
+        compared(alloc, task, attempt, faults, best)
+    } else {
+        Ok(None)
     }
-    attempt.keep_reached()?;
-    let rank = Rank::of(&attempt, faults)?;
-    if !is_better(&rank, best) {
-        return Ok(None);
-    }
-    match offered(alloc, task, attempt, rank)? {
-        Some(proposed) => Ok(Some(Offer { proposed, rank })),
-        None => Ok(None),
+}
+
+/// What an attempt at a certificate proposes that goes on as one at a chain.
+fn try_begun(
+    alloc: Global,
+    task: Task<'_>,
+    begun: Attempt<'_>,
+    faults: &[Blocked],
+    best: &Option<Offer>,
+) -> Result<Option<Offer>, NoMemory>
+    requires { IsValid task.sight.flow.now task.sight.defs.now }
+    ensures { IfOk result (λ found. IfSome found (λ offer. IsProposed task.entry.sight.flow.now task.entry.sight.defs.now offer.proposed)) }
+{
+    let mut attempt = begun;
+    attempt.turn_to_chain(faults, all_steps(task))?;
+    if attempt.run()? {
+        compared(alloc, task, attempt, faults, best)
+    } else {
+        Ok(None)
     }
 }
 
@@ -225,19 +266,24 @@ fn best_of(best: Option<Offer>) -> Option<Proposed>
     }
 }
 
-/// The attempts one after the other, where these faults are met before anything is folded: the chain that tells best what is
-/// met so, or a certificate after all. None says only that nothing was found.
+/// The attempts one after the other, where these faults are met before anything is folded, the first of them one that has
+/// begun, if there is one: the chain that tells best what is met so, or a certificate after all. None says only that nothing
+/// was found.
 pub fn try_all(
     alloc: Global,
     task: Task<'_>,
     limits: Limits,
     faults: &[Blocked],
+    begun: Option<Attempt<'_>>,
 ) -> Result<Option<Proposed>, NoMemory>
     requires { IsValid task.sight.flow.now task.sight.defs.now }
     ensures { IfOk result (λ found. IfSome found (λ proposed. IsProposed task.entry.sight.flow.now task.entry.sight.defs.now proposed)) }
 {
-    let mut left = limits.lines.saturating_mul(WHOLE);
+    let mut left = at_least(task, STEPS, STEPS_EACH).saturating_mul(WHOLE);
     let mut best: Option<Offer> = None;
+    if let Some(attempt) = begun {
+        best = try_begun(alloc, task, attempt, faults, &best)?;
+    }
     for style in &styles() {
         if left > 0 && is_needed(style, &best, faults) {
             if let Some(found) = try_one(alloc, task, *style, limits, faults, &best, &mut left)? {

@@ -17,9 +17,6 @@ use mc_lines::written::document;
 use mc_state::numbers_stay_bounded;
 use std::alloc::Global;
 
-/// How many lines an attempt may take.
-const LINES: u64 = 20_000;
-
 // The document of a certificate and its report.
 fn proved(alloc: Global, flow: &Flow, defs: &Defs, lines: &[Line]) -> Result<Findings, NoMemory>
     requires { IsFound flow.now defs.now lines.now }
@@ -174,9 +171,9 @@ fn with_loops(
     ensures { IfOk result (IsAnalysis flow.now defs.now) }
 {
     let limits = Limits {
-        lines: LINES,
         keys: states,
         rounds,
+        merge: false,
     };
     match search(alloc, flow, defs, limits)? {
         Some(proposed) => answered(alloc, flow, defs, proposed),

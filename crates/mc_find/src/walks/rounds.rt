@@ -2,21 +2,14 @@
 use crate::walks::Attempt;
 use mc_base::PointId;
 
-impl Attempt<'_> {
-    /// Lets no round have begun.
-    pub fn clear_rounds(&mut self) {
-        for count in self.rounds.as_mut_slice() {
-            *count = 0;
-        }
-    }
+/// The most steps that are spent on walks from one cut by one plan.
+const SPENT: u64 = 40_000;
 
+impl Attempt<'_> {
     /// The round of a cut after the one that has begun.
     pub fn next_round(&self, cut: PointId) -> u64 {
-        match self.place_of(cut) {
-            Some(place) => match self.rounds.as_slice().get(place) {
-                Some(count) => count.saturating_add(1),
-                None => 1,
-            },
+        match self.cuts.find(cut) {
+            Some(own) => own.round.saturating_add(1),
             None => 1,
         }
     }
@@ -29,20 +22,26 @@ impl Attempt<'_> {
         }
     }
 
-    /// Begins the round in which a head is walked from, unless it has begun; whether there may be so many.
-    pub fn begin_round(&mut self, place: usize) -> bool {
-        let Some(head) = self.heads.as_slice().get(place) else {
-            return true;
-        };
-        let turn = head.turn;
-        let Some(own) = self.place_of(head.cut) else {
-            return true;
-        };
-        if let Some(count) = self.rounds.get_mut(own) {
-            if *count < turn {
-                *count = turn;
-            }
+    /// The next stamp.
+    pub fn next_stamp(&mut self) -> u64 {
+        self.stamp = self.stamp.saturating_add(1);
+        self.stamp
+    }
+
+    /// Begins the round in which a head is walked from, unless it has begun. Its cut, where that has had all its rounds, or
+    /// too many steps.
+    pub fn overdue(&mut self, place: usize) -> Option<PointId> {
+        let head = self.heads.as_slice().get(place)?;
+        let own = self.cuts.find_mut(head.cut)?;
+        if own.round < head.turn {
+            own.round = head.turn;
         }
-        turn <= self.limits.rounds
+        let is_over = own.round > self.limits.rounds;
+        let is_spent = own.spent > SPENT && !own.rung.loses;
+        if is_over || is_spent {
+            Some(head.cut)
+        } else {
+            None
+        }
     }
 }
