@@ -51,11 +51,11 @@ pub flag_read : (E : Type 0) (Gives : List ℕ → Result Bool E → Type 0) (f 
 flag_read E Gives f app words id None rows none value parses =
     λ is reads.
     let read = value (flag_text is) (same_text f app words id rows ∙ reads) in
-    no_text is (parses (flag_text is) (Err read.0) read.1)
+    no_text is read.0 (parses (flag_text is) (Err read.0) read.1)
   where
-    no_text : (is : Bool) {e : E} → ParsesBool (flag_text is) (Err e) → ⊥
-    no_text true failed = failed.0 refl
-    no_text false failed = failed.1 refl
+    no_text : (is : Bool) (e : E) → ParsesBool (flag_text is) (Err e) → ⊥
+    no_text true e failed = failed.0 refl
+    no_text false e failed = failed.1 refl
 flag_read E Gives f app words id (Some is) rows none value parses = at (one_text f id) refl
   where
     text_is : (t : List ℕ) (is : Bool) → ParsesBool {E = E} t (Ok is) → t ≡ flag_text is
