@@ -1,5 +1,5 @@
 // Attempts for alarms of a program with loops.
-ghost use Rattle.std.specs.Prelude.{IfOk, IfSome, List};
+ghost use Rattle.std.specs.Prelude.{Bool, IfOk, IfSome, List};
 ghost use Rattle.mc_flow.specs.declared.defs.rules.Def.{Def};
 ghost use Rattle.mc_flow.specs.declared.graph.Flow.{Flow as Graph};
 ghost use Rattle.mc_flow.specs.Valid.{IsValid};
@@ -118,13 +118,14 @@ fn is_better(rank: &Rank, best: &Option<Offer>) -> bool {
 fn certificate(
     alloc: Global,
     task: Task<'_>,
+    merge: bool,
     attempt: Attempt<'_>,
 ) -> Result<Option<Proposed>, NoMemory>
     requires { IsValid task.sight.flow.now task.sight.defs.now }
-    ensures { IfOk result (λ found. IfSome found (λ proposed. IsProposed task.entry.sight.flow.now task.entry.sight.defs.now proposed)) }
+    ensures { IfOk result (λ found. IfSome found (λ proposed. IsProposed task.entry.sight.flow.now task.entry.sight.defs.now merge proposed)) }
 {
     let lines = attempt.document(Form::Certificate)?;
-    if is_found(alloc, task.sight.flow, task.sight.defs, lines.as_slice())? {
+    if is_found(alloc, task.sight.flow, task.sight.defs, merge, lines.as_slice())? {
         Ok(Some(Proposed::Certificate(lines)))
     } else {
         Ok(None)
@@ -132,12 +133,17 @@ fn certificate(
 }
 
 /// The lines of an attempt as a chain, where they are one that is accepted.
-fn chain(alloc: Global, task: Task<'_>, attempt: Attempt<'_>) -> Result<Option<Proposed>, NoMemory>
+fn chain(
+    alloc: Global,
+    task: Task<'_>,
+    merge: bool,
+    attempt: Attempt<'_>,
+) -> Result<Option<Proposed>, NoMemory>
     requires { IsValid task.sight.flow.now task.sight.defs.now }
-    ensures { IfOk result (λ found. IfSome found (λ proposed. IsProposed task.entry.sight.flow.now task.entry.sight.defs.now proposed)) }
+    ensures { IfOk result (λ found. IfSome found (λ proposed. IsProposed task.entry.sight.flow.now task.entry.sight.defs.now merge proposed)) }
 {
     let lines = attempt.document(Form::Chain)?;
-    match reported(alloc, task.sight.flow, task.sight.defs, lines.as_slice())? {
+    match reported(alloc, task.sight.flow, task.sight.defs, merge, lines.as_slice())? {
         Some(report) => Ok(Some(Proposed::Chain(lines, report))),
         None => Ok(None),
     }
@@ -147,16 +153,17 @@ fn chain(alloc: Global, task: Task<'_>, attempt: Attempt<'_>) -> Result<Option<P
 fn offered(
     alloc: Global,
     task: Task<'_>,
+    merge: bool,
     attempt: Attempt<'_>,
     rank: Rank,
 ) -> Result<Option<Proposed>, NoMemory>
     requires { IsValid task.sight.flow.now task.sight.defs.now }
-    ensures { IfOk result (λ found. IfSome found (λ proposed. IsProposed task.entry.sight.flow.now task.entry.sight.defs.now proposed)) }
+    ensures { IfOk result (λ found. IfSome found (λ proposed. IsProposed task.entry.sight.flow.now task.entry.sight.defs.now merge proposed)) }
 {
     if rank.alarms == 0 {
-        certificate(alloc, task, attempt)
+        certificate(alloc, task, merge, attempt)
     } else {
-        chain(alloc, task, attempt)
+        chain(alloc, task, merge, attempt)
     }
 }
 
@@ -164,18 +171,19 @@ fn offered(
 fn compared(
     alloc: Global,
     task: Task<'_>,
+    merge: bool,
     attempt: Attempt<'_>,
     faults: &[Blocked],
     best: &Option<Offer>,
 ) -> Result<Option<Offer>, NoMemory>
     requires { IsValid task.sight.flow.now task.sight.defs.now }
-    ensures { IfOk result (λ found. IfSome found (λ offer. IsProposed task.entry.sight.flow.now task.entry.sight.defs.now offer.proposed)) }
+    ensures { IfOk result (λ found. IfSome found (λ offer. IsProposed task.entry.sight.flow.now task.entry.sight.defs.now merge offer.proposed)) }
 {
     let rank = Rank::of(&attempt, faults)?;
     if !is_better(&rank, best) {
         return Ok(None);
     }
-    match offered(alloc, task, attempt, rank)? {
+    match offered(alloc, task, merge, attempt, rank)? {
         Some(proposed) => Ok(Some(Offer { proposed, rank })),
         None => Ok(None),
     }
@@ -193,14 +201,14 @@ fn try_one(
     left: &mut u64,
 ) -> Result<Option<Offer>, NoMemory>
     requires { IsValid task.sight.flow.now task.sight.defs.now }
-    ensures { IfOk result (λ found. IfSome found (λ offer. IsProposed task.entry.sight.flow.now task.entry.sight.defs.now offer.proposed)) }
+    ensures { IfOk result (λ found. IfSome found (λ offer. IsProposed task.entry.sight.flow.now task.entry.sight.defs.now limits.entry.merge offer.proposed)) }
 {
     let steps = at_least(task, STEPS, STEPS_EACH).min(*left);
     let mut attempt = Attempt::new(alloc, task, Aim::Chain, style, limits, steps)?;
     let is_whole = attempt.run()?;
     *left = left.saturating_sub(steps.saturating_sub(attempt.left()));
     if is_whole {
-        compared(alloc, task, attempt, faults, best)
+        compared(alloc, task, limits.merge, attempt, faults, best)
     } else {
         Ok(None)
     }
@@ -210,17 +218,18 @@ fn try_one(
 fn try_begun(
     alloc: Global,
     task: Task<'_>,
+    limits: Limits,
     begun: Attempt<'_>,
     faults: &[Blocked],
     best: &Option<Offer>,
 ) -> Result<Option<Offer>, NoMemory>
     requires { IsValid task.sight.flow.now task.sight.defs.now }
-    ensures { IfOk result (λ found. IfSome found (λ offer. IsProposed task.entry.sight.flow.now task.entry.sight.defs.now offer.proposed)) }
+    ensures { IfOk result (λ found. IfSome found (λ offer. IsProposed task.entry.sight.flow.now task.entry.sight.defs.now limits.entry.merge offer.proposed)) }
 {
     let mut attempt = begun;
     attempt.turn_to_chain(faults, all_steps(task))?;
     if attempt.run()? {
-        compared(alloc, task, attempt, faults, best)
+        compared(alloc, task, limits.merge, attempt, faults, best)
     } else {
         Ok(None)
     }
@@ -257,8 +266,8 @@ fn is_needed(style: &Style, best: &Option<Offer>, faults: &[Blocked]) -> bool {
 
 /// What was found best.
 fn best_of(best: Option<Offer>) -> Option<Proposed>
-    ensures { (flow : Graph) (defs : List Def) → IfSome best (λ offer. IsProposed flow defs offer.proposed)
-        → IfSome result (λ proposed. IsProposed flow defs proposed) }
+    ensures { (flow : Graph) (defs : List Def) (merge : Bool) → IfSome best (λ offer. IsProposed flow defs merge offer.proposed)
+        → IfSome result (λ proposed. IsProposed flow defs merge proposed) }
 {
     match best {
         Some(found) => Some(found.proposed),
@@ -277,12 +286,12 @@ pub fn try_all(
     begun: Option<Attempt<'_>>,
 ) -> Result<Option<Proposed>, NoMemory>
     requires { IsValid task.sight.flow.now task.sight.defs.now }
-    ensures { IfOk result (λ found. IfSome found (λ proposed. IsProposed task.entry.sight.flow.now task.entry.sight.defs.now proposed)) }
+    ensures { IfOk result (λ found. IfSome found (λ proposed. IsProposed task.entry.sight.flow.now task.entry.sight.defs.now limits.entry.merge proposed)) }
 {
     let mut left = at_least(task, STEPS, STEPS_EACH).saturating_mul(WHOLE);
     let mut best: Option<Offer> = None;
     if let Some(attempt) = begun {
-        best = try_begun(alloc, task, attempt, faults, &best)?;
+        best = try_begun(alloc, task, limits, attempt, faults, &best)?;
     }
     for style in &styles() {
         if left > 0 && is_needed(style, &best, faults) {

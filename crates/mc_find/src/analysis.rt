@@ -3,7 +3,9 @@
 mod analysis;
 mod finding;
 mod proposed;
+mod settings;
 
 pub use analysis::{Analysis, Findings};
 pub use finding::analyse;
 pub use proposed::Proposed;
+pub use settings::Settings;

@@ -1,26 +1,17 @@
-// The cuts with which a search begins.
+// The cuts of a certificate.
 use mc_base::{NoMemory, PointId};
 use mc_flow::Flow;
 use std::alloc::Global;
 
-/// Adds points that are not in a list.
-fn add_points(list: &mut Vec<PointId>, points: &[PointId]) -> Result<(), NoMemory> {
-    for point in points {
-        if !list.as_slice().contains(point) {
-            list.push(*point)?;
-        }
-    }
-    Ok(())
-}
-
-/// The loop heads of a flow graph, and the points where the two ways of an `if` meet where these are asked for, ascending, each
-/// once.
+/// The points that a certificate has to cut, ascending, each once: the loop heads, and where states are merged the points where
+/// an `if` ends.
 pub fn first_cuts(alloc: Global, flow: &Flow, merge: bool) -> Result<Vec<PointId>, NoMemory> {
-    let mut cuts: Vec<PointId> = Vec::with_capacity(alloc, flow.heads.len())?;
-    add_points(&mut cuts, flow.heads.as_slice())?;
+    let mut cuts: Vec<PointId> = Vec::new(alloc);
+    cuts.extend_from_slice(flow.heads.as_slice())?;
     if merge {
-        add_points(&mut cuts, flow.merges.as_slice())?;
+        cuts.extend_from_slice(flow.merges.as_slice())?;
     }
     cuts.sort()?;
+    cuts.dedup();
     Ok(cuts)
 }

@@ -1,5 +1,5 @@
 // The search for a certificate.
-ghost use Rattle.std.specs.Prelude.{IfOk, IfSome};
+ghost use Rattle.std.specs.Prelude.{◌≡◌, IfOk, IfSome};
 ghost use Rattle.mc_flow.specs.Valid.{IsValid};
 ghost use Rattle.mc_find.specs.Analysis.Findings.{IsFound};
 
@@ -50,15 +50,16 @@ pub fn new_attempt<'a>(
 pub fn certified(
     alloc: Global,
     task: Task<'_>,
+    merge: bool,
     attempt: Attempt<'_>,
 ) -> Result<Option<Vec<Line>>, NoMemory>
     requires { IsValid task.sight.flow.now task.sight.defs.now }
     ensures { IfOk result
         (λ found. IfSome found
-        (λ lines. IsFound task.entry.sight.flow.now task.entry.sight.defs.now lines.items)) }
+        (λ lines. IsFound task.entry.sight.flow.now task.entry.sight.defs.now merge lines.items)) }
 {
     let lines = attempt.document(Form::Certificate)?;
-    if is_found(alloc, task.sight.flow, task.sight.defs, lines.as_slice())? {
+    if is_found(alloc, task.sight.flow, task.sight.defs, merge, lines.as_slice())? {
         Ok(Some(lines))
     } else {
         Ok(None)
@@ -75,21 +76,23 @@ fn try_again(
     requires { IsValid task.sight.flow.now task.sight.defs.now }
     ensures { IfOk result
         (λ found. IfSome found
-        (λ lines. IsFound task.entry.sight.flow.now task.entry.sight.defs.now lines.items)) }
+        (λ lines. IsFound task.entry.sight.flow.now task.entry.sight.defs.now limits.entry.merge lines.items)) }
 {
     let mut attempt = new_attempt(alloc, task, limits, *left)?;
     attempt.blame_cuts();
     let is_whole = attempt.run()?;
     *left = attempt.left();
     if is_whole {
-        certified(alloc, task, attempt)
+        certified(alloc, task, limits.merge, attempt)
     } else {
         Ok(None)
     }
 }
 
 /// The limits with which the search is made again.
-fn fewer(limits: Limits) -> Limits {
+fn fewer(limits: Limits) -> Limits
+    ensures { result.merge ≡ limits.entry.merge }
+{
     Limits {
         keys: limits.keys.min(KEYS),
         rounds: limits.rounds,
@@ -107,7 +110,7 @@ pub fn other_certificate(
     requires { IsValid task.sight.flow.now task.sight.defs.now }
     ensures { IfOk result
         (λ found. IfSome found
-        (λ lines. IsFound task.entry.sight.flow.now task.entry.sight.defs.now lines.items)) }
+        (λ lines. IsFound task.entry.sight.flow.now task.entry.sight.defs.now limits.entry.merge lines.items)) }
 {
     let own = fewer(limits);
     let mut left = all_steps(task);
