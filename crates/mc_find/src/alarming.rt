@@ -7,7 +7,6 @@ ghost use Rattle.mc_find.specs.Analysis.Findings.{IsProposed};
 
 use crate::accepted::{is_found, reported};
 use crate::analysis::Proposed;
-use crate::finding::all_steps;
 use crate::rank::Rank;
 use crate::walks::{Aim, Attempt, Blocked, Limits, Rung, Step, Style, Task, first_rung};
 use mc_base::NoMemory;
@@ -93,7 +92,14 @@ pub fn first_faults(alloc: Global, task: Task<'_>) -> Result<Vec<Blocked>, NoMem
         heads: 0,
         nulls: false,
     };
-    let mut attempt = Attempt::new(alloc, task, Aim::Faults, style, limits, at_least(task, FIRST, FIRST_EACH))?;
+    let mut attempt = Attempt::new(
+        alloc,
+        task,
+        Aim::Faults,
+        style,
+        limits,
+        at_least(task, FIRST, FIRST_EACH),
+    )?;
     attempt.run()?;
     let (places, _) = attempt.blocked()?;
     Ok(places)
@@ -125,7 +131,13 @@ fn certificate(
     ensures { IfOk result (λ found. IfSome found (λ proposed. IsProposed task.entry.sight.flow.now task.entry.sight.defs.now merge proposed)) }
 {
     let lines = attempt.document(Form::Certificate)?;
-    if is_found(alloc, task.sight.flow, task.sight.defs, merge, lines.as_slice())? {
+    if is_found(
+        alloc,
+        task.sight.flow,
+        task.sight.defs,
+        merge,
+        lines.as_slice(),
+    )? {
         Ok(Some(Proposed::Certificate(lines)))
     } else {
         Ok(None)
@@ -143,7 +155,13 @@ fn chain(
     ensures { IfOk result (λ found. IfSome found (λ proposed. IsProposed task.entry.sight.flow.now task.entry.sight.defs.now merge proposed)) }
 {
     let lines = attempt.document(Form::Chain)?;
-    match reported(alloc, task.sight.flow, task.sight.defs, merge, lines.as_slice())? {
+    match reported(
+        alloc,
+        task.sight.flow,
+        task.sight.defs,
+        merge,
+        lines.as_slice(),
+    )? {
         Some(report) => Ok(Some(Proposed::Chain(lines, report))),
         None => Ok(None),
     }
@@ -227,8 +245,14 @@ fn try_begun(
     ensures { IfOk result (λ found. IfSome found (λ offer. IsProposed task.entry.sight.flow.now task.entry.sight.defs.now limits.entry.merge offer.proposed)) }
 {
     let mut attempt = begun;
-    attempt.turn_to_chain(faults, all_steps(task))?;
-    if attempt.run()? {
+    let steps = at_least(task, STEPS, STEPS_EACH);
+    attempt.turn_to_chain(faults, steps / 4)?;
+    let mut is_whole = attempt.run()?;
+    if !is_whole {
+        attempt.stop_blaming(steps)?;
+        is_whole = attempt.run()?;
+    }
+    if is_whole {
         compared(alloc, task, limits.merge, attempt, faults, best)
     } else {
         Ok(None)
@@ -275,9 +299,57 @@ fn best_of(best: Option<Offer>) -> Option<Proposed>
     }
 }
 
-/// The attempts one after the other, where these faults are met before anything is folded, the first of them one that has
-/// begun, if there is one: the chain that tells best what is met so, or a certificate after all. None says only that nothing
-/// was found.
+/// What is best after an attempt that has begun, if it is still there and may tell better.
+fn after_begun(
+    alloc: Global,
+    task: Task<'_>,
+    limits: Limits,
+    faults: &[Blocked],
+    begun: &mut Option<Attempt<'_>>,
+    best: Option<Offer>,
+) -> Result<Option<Offer>, NoMemory>
+    requires valid { IsValid task.sight.flow.now task.sight.defs.now }
+    requires best { IfSome best (λ offer. IsProposed task.sight.flow.now task.sight.defs.now limits.merge offer.proposed) }
+    ensures { IfOk result (λ found. IfSome found (λ offer. IsProposed task.entry.sight.flow.now task.entry.sight.defs.now limits.entry.merge offer.proposed)) }
+{
+    if is_settled(&best, faults) || is_right(&best) {
+        return Ok(best);
+    }
+    let Some(attempt) = begun.take() else {
+        return Ok(best);
+    };
+    match try_begun(alloc, task, limits, attempt, faults, &best)? {
+        Some(found) => Ok(Some(found)),
+        None => Ok(best),
+    }
+}
+
+/// What is best after an attempt of a style, if that may tell better and some of so many steps are left.
+fn after_style(
+    alloc: Global,
+    task: Task<'_>,
+    style: Style,
+    limits: Limits,
+    faults: &[Blocked],
+    best: Option<Offer>,
+    left: &mut u64,
+) -> Result<Option<Offer>, NoMemory>
+    requires valid { IsValid task.sight.flow.now task.sight.defs.now }
+    requires best { IfSome best (λ offer. IsProposed task.sight.flow.now task.sight.defs.now limits.merge offer.proposed) }
+    ensures { IfOk result (λ found. IfSome found (λ offer. IsProposed task.entry.sight.flow.now task.entry.sight.defs.now limits.entry.merge offer.proposed)) }
+{
+    if *left == 0 || !is_needed(&style, &best, faults) {
+        return Ok(best);
+    }
+    match try_one(alloc, task, style, limits, faults, &best, left)? {
+        Some(found) => Ok(Some(found)),
+        None => Ok(best),
+    }
+}
+
+/// The attempts one after the other, where these faults are met before anything is folded, among them one that has begun: it
+/// comes first where there is no fault, else after the first one. The chain that tells best what is met so, or a certificate
+/// after all. None says only that nothing was found.
 pub fn try_all(
     alloc: Global,
     task: Task<'_>,
@@ -289,16 +361,13 @@ pub fn try_all(
     ensures { IfOk result (λ found. IfSome found (λ proposed. IsProposed task.entry.sight.flow.now task.entry.sight.defs.now limits.entry.merge proposed)) }
 {
     let mut left = at_least(task, STEPS, STEPS_EACH).saturating_mul(WHOLE);
+    let mut rest = begun;
     let mut best: Option<Offer> = None;
-    if let Some(attempt) = begun {
-        best = try_begun(alloc, task, limits, attempt, faults, &best)?;
-    }
-    for style in &styles() {
-        if left > 0 && is_needed(style, &best, faults) {
-            if let Some(found) = try_one(alloc, task, *style, limits, faults, &best, &mut left)? {
-                best = Some(found);
-            }
+    for (place, style) in styles().iter().enumerate() {
+        if faults.is_empty() || place > 0 {
+            best = after_begun(alloc, task, limits, faults, &mut rest, best)?;
         }
+        best = after_style(alloc, task, *style, limits, faults, best, &mut left)?;
     }
     Ok(best_of(best))
 }

@@ -59,7 +59,13 @@ pub fn certified(
         (λ lines. IsFound task.entry.sight.flow.now task.entry.sight.defs.now merge lines.items)) }
 {
     let lines = attempt.document(Form::Certificate)?;
-    if is_found(alloc, task.sight.flow, task.sight.defs, merge, lines.as_slice())? {
+    if is_found(
+        alloc,
+        task.sight.flow,
+        task.sight.defs,
+        merge,
+        lines.as_slice(),
+    )? {
         Ok(Some(lines))
     } else {
         Ok(None)

@@ -27,12 +27,7 @@ pub struct Prepared {
 
 impl Prepared {
     /// What is found out of a program, where the points at which two ways meet may be cuts too.
-    pub fn of(
-        alloc: Global,
-        flow: &Flow,
-        defs: &Defs,
-        merge: bool,
-    ) -> Result<Prepared, NoMemory> {
+    pub fn of(alloc: Global, flow: &Flow, defs: &Defs, merge: bool) -> Result<Prepared, NoMemory> {
         let live = live_variables(alloc, flow)?;
         let stored = StoredFields::of(alloc, flow)?;
         let constants = constant_variables(alloc, flow)?;

@@ -8,7 +8,7 @@ use crate::Limits;
 pub struct Settings {
     /// How many states a cut has at most, about.
     pub states: usize,
-    /// In how many rounds at most an attempt walks from the states of a cut that are new or have changed.
+    /// How often at most is walked from each state of a cut: once when it is new, and again where it has changed.
     pub rounds: u64,
     /// Whether the states of branches are merged where an `if` ends.
     pub merge: bool,

@@ -55,7 +55,7 @@ impl Attempt<'_> {
         let Some(head) = self.head_of(cut, state, seen)? else {
             return Ok(Way::Stuck);
         };
-        self.heads.push(head)?;
+        self.push_head(head)?;
         if self.rung_at(cut).step == Step::Match {
             return self.absorb(cut);
         }
@@ -69,13 +69,12 @@ impl Attempt<'_> {
         state: &State,
         images: &[NodeId],
     ) -> Result<Way, NoMemory> {
-        let turn = self.next_turn(place);
         let stamp = self.next_stamp();
         let Some(head) = self.heads.get_mut(place) else {
             return Ok(Way::Stuck);
         };
         head.round = head.round.saturating_add(1);
-        head.turn = turn;
+        head.is_fresh = true;
         head.stamp = stamp;
         let known = state.known();
         let thresholds = self.paths.thresholds();

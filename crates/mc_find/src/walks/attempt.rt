@@ -15,7 +15,7 @@ use std::alloc::Global;
 
 /// An attempt to find a document: the cuts with their plans, the states of cuts so far, the branches from the entry, the cut
 /// from whose head branches are followed now, how many steps are left in all and in this walk, how often each point was
-/// passed in it, the faults that are known to be met, and whether cuts may be given other plans.
+/// passed in it, the faults that are known to be met, whether cuts may be given other plans, and whether cuts may be added.
 #[derive(Drop)]
 pub struct Attempt<'a> {
     pub(crate) alloc: Global,
@@ -36,6 +36,7 @@ pub struct Attempt<'a> {
     pub(crate) stamp: u64,
     pub(crate) faults: Vec<Blocked>,
     pub(crate) blames: bool,
+    pub(crate) cuts_late: bool,
 }
 
 /// The most steps of one walk.
@@ -78,6 +79,7 @@ impl<'a> Attempt<'a> {
             stamp: 0,
             faults: Vec::new(alloc),
             blames: false,
+            cuts_late: aim == Aim::Certificate,
         })
     }
 
@@ -90,6 +92,14 @@ impl<'a> Attempt<'a> {
     pub fn turn_to_chain(&mut self, faults: &[Blocked], steps: u64) -> Result<(), NoMemory> {
         self.aim = Aim::Chain;
         self.faults = Vec::from_slice(self.alloc, faults)?;
+        self.left = steps;
+        Ok(())
+    }
+
+    /// Lets no cut have another plan any more, where so many steps are left.
+    pub fn stop_blaming(&mut self, steps: u64) -> Result<(), NoMemory> {
+        self.give_up_on_all()?;
+        self.blames = false;
         self.left = steps;
         Ok(())
     }

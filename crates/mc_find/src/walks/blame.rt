@@ -116,14 +116,18 @@ impl Attempt<'_> {
         Ok(list)
     }
 
-    /// Whether a plan is another one for one of the marked cuts.
+    /// Whether a plan at its first step is something else for one of the marked cuts. More heads make no difference where there
+    /// were never too many.
     fn changes(&self, marks: &[bool], plan: Plan) -> bool {
+        let mut is_other = false;
+        let mut may_crowd = plan.keys <= self.limits.keys;
         for (place, cut) in self.cuts.list().iter().enumerate() {
-            if has(marks, place) && cut.plan != plan {
-                return true;
+            if has(marks, place) {
+                is_other = is_other || cut.plan != plan || !cut.is_at_first();
+                may_crowd = may_crowd || cut.was_crowded;
             }
         }
-        false
+        is_other && may_crowd
     }
 
     /// What is tried next for a cut. None where all was tried.
@@ -183,7 +187,7 @@ impl Attempt<'_> {
                     .mark_after(self.alloc, &mut marks, cut.point)?;
             }
         }
-        self.drop_heads_at(marks.as_slice());
+        self.drop_heads_at(marks.as_slice())?;
         for cut in self.cuts.list_mut() {
             if has(marks.as_slice(), cut.point.0 as usize) {
                 cut.begin_again();
@@ -220,6 +224,26 @@ impl Attempt<'_> {
             }
         }
         self.drop_after(changed.as_slice())
+    }
+
+    /// Gives up all cuts that have been given other plans.
+    pub fn give_up_on_all(&mut self) -> Result<(), NoMemory> {
+        for place in 0..self.cuts.list().len() {
+            let found = match self.cuts.list().get(place) {
+                Some(own) => {
+                    if own.tries > 0 && !own.is_given_up {
+                        Some(own.point)
+                    } else {
+                        None
+                    }
+                }
+                None => None,
+            };
+            if let Some(cut) = found {
+                self.give_up_on(cut)?;
+            }
+        }
+        Ok(())
     }
 
     /// Gives a cut another plan, or others that come before it; whether there is a way to go on.

@@ -1,7 +1,7 @@
 // The document of an attempt that is whole.
+use crate::walks::Attempt;
 use crate::walks::cuts::Cuts;
 use crate::walks::heads::Head;
-use crate::walks::Attempt;
 use mc_base::{NoMemory, PointId};
 use mc_lines::cert::Line;
 use mc_state::{Form, Version};
@@ -75,7 +75,10 @@ fn push_heads(
         };
         if let Some(head) = slot.take() {
             let Head {
-                cut, raw, walked, ..
+                cut,
+                raw,
+                walked,
+                ..
             } = head;
             all.push(Line::Head(cut, raw))?;
             bodies.push(walked.lines)?;

@@ -10,9 +10,11 @@ const SEVERAL: usize = 4;
 impl Attempt<'_> {
     /// Whether a head of a cut has flags.
     fn has_flags(&self, cut: PointId) -> bool {
-        for head in self.heads.as_slice() {
-            if head.is_of(cut) && !head.flags.is_empty() {
-                return true;
+        for place in self.cuts.heads_of(cut) {
+            if let Some(head) = self.heads.as_slice().get(*place) {
+                if !head.flags.is_empty() {
+                    return true;
+                }
             }
         }
         false
@@ -31,24 +33,31 @@ impl Attempt<'_> {
     }
 
     /// Lets a cut begin again at a rung.
-    fn climb_to(&mut self, cut: PointId, rung: Rung) {
+    fn climb_to(&mut self, cut: PointId, rung: Rung) -> Result<(), NoMemory> {
         if let Some(own) = self.cuts.find_mut(cut) {
             own.begin_at(rung);
         }
-        self.drop_heads_of(cut);
+        self.drop_heads_of(cut)
     }
 
     /// Makes room at a cut that would have too many heads, has had too many rounds, or took too many steps. Whether there is a
     /// way.
     pub fn relieve(&mut self, cut: PointId) -> Result<bool, NoMemory> {
+        if let Some(own) = self.cuts.find_mut(cut) {
+            own.was_crowded = true;
+        }
         if let Some(least) = self.climbing_for(cut) {
-            self.climb_to(least, first_rung(Step::Whole));
+            self.climb_to(least, first_rung(Step::Whole))?;
             return Ok(true);
         }
-        let heads = if self.is_certain(cut) { 0 } else { self.style.heads };
+        let heads = if self.is_certain(cut) {
+            0
+        } else {
+            self.style.heads
+        };
         match rung_up(self.rung_at(cut), heads, self.has_flags(cut)) {
             Some(next) => {
-                self.climb_to(cut, next);
+                self.climb_to(cut, next)?;
                 Ok(true)
             }
             None => self.blame(cut),

@@ -5,31 +5,36 @@ use crate::walks::style::{Rung, first_rung};
 use mc_base::{NoMemory, PointId};
 use std::alloc::Global;
 
-/// A cut: how states are folded there, how far its ladder is climbed, which try of another plan comes next, how many steps
-/// were spent on walks from it since it began, how many rounds have begun, whether no try is left, and the plans of all cuts
-/// when the first was made.
+/// A cut: the places of its heads, how states are folded there, how far its ladder is climbed, which try of another plan comes
+/// next, how many steps were spent on walks from it since it began, whether it had too many heads once, whether no try is left,
+/// and the plans of all cuts when the first was made.
 #[derive(Drop)]
 pub struct Cut {
     pub point: PointId,
+    pub heads: Vec<usize>,
     pub plan: Plan,
     pub rung: Rung,
     pub tries: usize,
     pub spent: u64,
-    pub round: u64,
+    pub was_crowded: bool,
     pub is_given_up: bool,
     pub saved: Vec<Plan>,
 }
 
 impl Cut {
+    /// Has a head no more.
+    pub fn forget(&mut self, head: usize) {
+        self.heads.retain(|own| *own != head);
+    }
+
     /// Lets it begin again at a rung.
     pub fn begin_at(&mut self, rung: Rung) {
         self.rung = rung;
         self.begin_again();
     }
 
-    /// Lets its rounds and steps begin again.
+    /// Lets its steps begin again.
     pub fn begin_again(&mut self) {
-        self.round = 0;
         self.spent = 0;
     }
 
@@ -88,11 +93,12 @@ impl Cuts {
         }
         self.list.push(Cut {
             point,
+            heads: Vec::new(alloc),
             plan,
             rung,
             tries: 0,
             spent: 0,
-            round: 0,
+            was_crowded: false,
             is_given_up: false,
             saved: Vec::new(alloc),
         })?;
@@ -141,6 +147,14 @@ impl Cuts {
         }
     }
 
+    /// The places of the heads of a cut.
+    pub fn heads_of(&self, point: PointId) -> &[usize] {
+        match self.find(point) {
+            Some(cut) => cut.heads.as_slice(),
+            None => &[],
+        }
+    }
+
     /// The cut at a point, to be changed.
     pub fn find_mut(&mut self, point: PointId) -> Option<&mut Cut> {
         match self.place_of(point) {
@@ -159,12 +173,18 @@ impl Cuts {
             .unwrap_or(point)
     }
 
-    /// The points of the cuts, ascending.
-    pub fn sorted(&self, alloc: Global) -> Result<Vec<PointId>, NoMemory> {
+    /// The points of the cuts, in the order in which they came.
+    pub fn points(&self, alloc: Global) -> Result<Vec<PointId>, NoMemory> {
         let mut points: Vec<PointId> = Vec::with_capacity(alloc, self.list.len())?;
         for cut in self.list.as_slice() {
             points.push(cut.point)?;
         }
+        Ok(points)
+    }
+
+    /// The points of the cuts, ascending.
+    pub fn sorted(&self, alloc: Global) -> Result<Vec<PointId>, NoMemory> {
+        let mut points = self.points(alloc)?;
         points.sort()?;
         Ok(points)
     }

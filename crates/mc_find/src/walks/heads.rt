@@ -13,9 +13,9 @@ use mc_state::RawState;
 use mc_symbolic::State;
 use std::alloc::Global;
 
-/// A state of a cut: as documents write it, and as lines change it; how often it changed; the round of its cut in which it is
-/// walked from since it came or changed, and when that was; what is known of the branches from it, where these are of the state
-/// as it is now; and whether it lost what arrivals lack.
+/// A state of a cut: as documents write it, and as lines change it; how often it changed; how many
+/// rounds it has had, whether it is new or has changed since the last one, and when that was; what is known of the branches from
+/// it, where these are of the state as it is now; and whether it lost what arrivals lack.
 #[derive(Drop)]
 pub struct Head {
     pub cut: PointId,
@@ -24,7 +24,8 @@ pub struct Head {
     pub flags: Vec<(VarId, i64)>,
     pub hash: u64,
     pub round: u64,
-    pub turn: u64,
+    pub turns: u64,
+    pub is_fresh: bool,
     pub stamp: u64,
     pub walked: Walked,
     pub is_stale: bool,
@@ -126,23 +127,28 @@ impl Attempt<'_> {
     /// The head with the shape of what was seen, other than one.
     pub fn head_like(&self, cut: PointId, seen: &Seen, except: Option<usize>) -> Option<usize> {
         let hash = hash_of(&seen.raw);
-        for (place, head) in self.heads.as_slice().iter().enumerate() {
-            if except != Some(place) && head.has_shape(cut, seen, hash) {
-                return Some(place);
+        for place in self.cuts.heads_of(cut) {
+            if let Some(head) = self.heads.as_slice().get(*place) {
+                if except != Some(*place) && head.has_shape(cut, seen, hash) {
+                    return Some(*place);
+                }
             }
         }
         None
     }
 
+    /// Adds a head.
+    pub fn push_head(&mut self, head: Head) -> Result<(), NoMemory> {
+        if let Some(cut) = self.cuts.find_mut(head.cut) {
+            cut.heads.push(self.heads.len())?;
+        }
+        self.heads.push(head)?;
+        Ok(())
+    }
+
     /// How many heads a cut has.
     pub fn heads_at(&self, cut: PointId) -> usize {
-        let mut count = 0usize;
-        for head in self.heads.as_slice() {
-            if head.is_of(cut) {
-                count = count.saturating_add(1);
-            }
-        }
-        count
+        self.cuts.heads_of(cut).len()
     }
 
     /// The head of what was seen of a state. None where that is no state.
@@ -168,7 +174,8 @@ impl Attempt<'_> {
             flags: seen.flags,
             hash,
             round: 1,
-            turn: self.next_round(cut),
+            turns: 0,
+            is_fresh: true,
             stamp: self.next_stamp(),
             walked: Walked::new(self.alloc),
             is_stale: true,

@@ -1,7 +1,7 @@
 // Cuts that are added where branches come together too often.
+use crate::walks::Attempt;
 use crate::walks::walked::Walked;
 use crate::walks::walking::Way;
-use crate::walks::{Aim, Attempt};
 use mc_base::{NoMemory, PointId};
 
 /// A point that one walk passes so often becomes a cut, or one before it.
@@ -13,8 +13,7 @@ const SOME: u64 = 3;
 impl Attempt<'_> {
     /// Passes a point that does nothing, once more in this walk.
     pub fn pass(&mut self, walked: &mut Walked, point: PointId) -> Result<Way, NoMemory> {
-        let may_cut = self.aim == Aim::Certificate || self.blames;
-        if !may_cut || self.cuts.has(point) {
+        if !self.cuts_late || self.cuts.has(point) {
             return Ok(Way::On);
         }
         let Some(slot) = self.passed.get_mut(point.0 as usize) else {

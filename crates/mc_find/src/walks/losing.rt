@@ -138,6 +138,7 @@ impl Attempt<'_> {
             return Ok(Way::Stuck);
         };
         next.round = head.round.saturating_add(1);
+        next.turns = head.turns;
         next.is_weak = true;
         next.walked.add_targets(&head.walked)?;
         *head = next;

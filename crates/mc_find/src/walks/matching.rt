@@ -6,6 +6,9 @@ use crate::walks::walking::Way;
 use mc_base::{NoMemory, PointId};
 use mc_find_view::sight::Seen;
 
+/// So many steps it counts to try whether a state fits a head.
+const FIT: u64 = 4;
+
 impl<'a> Attempt<'a> {
     /// Lets a state fit a head, by folds that are added to the trail. None where it does not.
     fn fit_to(
@@ -16,6 +19,7 @@ impl<'a> Attempt<'a> {
         trail: &mut Trail<'_>,
     ) -> Result<Option<Landing>, NoMemory> {
         let manner = self.manner(cut);
+        self.spend(FIT);
         let Some(head) = self.heads.as_slice().get(place) else {
             return Ok(None);
         };

@@ -1,7 +1,7 @@
 // Heads to which branches come.
-use crate::walks::{Aim, Attempt};
 use crate::walks::heads::Head;
 use crate::walks::walked::Walked;
+use crate::walks::{Aim, Attempt};
 use mc_base::{NoMemory, PointId};
 
 /// Heads that are reached: marks of all that were met, and those whose targets are not marked yet.
@@ -66,9 +66,14 @@ impl Attempt<'_> {
     pub fn next_reached(&self) -> Result<Option<usize>, NoMemory> {
         let marks = self.reached(&[])?;
         let mut best: Option<(usize, (PointId, u64))> = None;
-        for (place, head) in self.heads.as_slice().iter().enumerate() {
-            let is_open = head.is_stale && !head.is_dropped;
-            if !is_open || !marks.as_slice().get(place).copied().unwrap_or(false) {
+        for (place, is_reached) in marks.as_slice().iter().enumerate() {
+            if !*is_reached {
+                continue;
+            }
+            let Some(head) = self.heads.as_slice().get(place) else {
+                continue;
+            };
+            if !head.is_stale || head.is_dropped {
                 continue;
             }
             let turn = self.turn_of(head);
@@ -104,48 +109,42 @@ impl Attempt<'_> {
         if let Some(head) = self.heads.get_mut(place) {
             head.is_dropped = true;
             head.walked = none;
+            if let Some(cut) = self.cuts.find_mut(head.cut) {
+                cut.forget(place);
+            }
         }
         self.follow_again(place);
     }
 
+    /// The places of the heads of a cut, copied.
+    fn places_at(&self, cut: PointId) -> Result<Vec<usize>, NoMemory> {
+        Vec::from_slice(self.alloc, self.cuts.heads_of(cut))
+    }
+
     /// Drops the heads of a cut.
-    pub fn drop_heads_of(&mut self, cut: PointId) {
-        for place in 0..self.heads.len() {
-            let is_own = match self.heads.as_slice().get(place) {
-                Some(head) => head.is_of(cut),
-                None => false,
-            };
-            if is_own {
-                self.forget_head(place);
-            }
+    pub fn drop_heads_of(&mut self, cut: PointId) -> Result<(), NoMemory> {
+        for place in self.places_at(cut)?.as_slice() {
+            self.forget_head(*place);
         }
+        Ok(())
     }
 
     /// Drops the heads of cuts at marked points.
-    pub fn drop_heads_at(&mut self, marks: &[bool]) {
-        for place in 0..self.heads.len() {
-            let is_own = match self.heads.as_slice().get(place) {
-                Some(head) => {
-                    !head.is_dropped && marks.get(head.cut.0 as usize).copied().unwrap_or(false)
-                }
-                None => false,
-            };
-            if is_own {
-                self.forget_head(place);
+    pub fn drop_heads_at(&mut self, marks: &[bool]) -> Result<(), NoMemory> {
+        for cut in self.cuts.points(self.alloc)?.as_slice() {
+            if marks.get(cut.0 as usize).copied().unwrap_or(false) {
+                self.drop_heads_of(*cut)?;
             }
         }
+        Ok(())
     }
 
     /// Drops the heads of a cut that are not reached from the entry, or from these heads.
     pub fn drop_unreached(&mut self, cut: PointId, fresh: &[usize]) -> Result<(), NoMemory> {
         let marks = self.reached(fresh)?;
-        for (place, is_reached) in marks.as_slice().iter().enumerate() {
-            let is_own = match self.heads.as_slice().get(place) {
-                Some(head) => head.is_of(cut),
-                None => false,
-            };
-            if is_own && !*is_reached {
-                self.forget_head(place);
+        for place in self.places_at(cut)?.as_slice() {
+            if !marks.as_slice().get(*place).copied().unwrap_or(false) {
+                self.forget_head(*place);
             }
         }
         Ok(())

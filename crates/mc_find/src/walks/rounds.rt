@@ -1,45 +1,42 @@
-// Rounds of cuts.
+// How often is walked from a state of a cut.
 use crate::walks::Attempt;
 use mc_base::PointId;
 
-/// The most steps that are spent on walks from one cut by one plan.
+/// The most steps that are spent on walks from one cut by one plan, if these are not more: so many for each point.
 const SPENT: u64 = 40_000;
 
+/// How many steps may be spent for each point.
+const SPENT_EACH: u64 = 50;
+
 impl Attempt<'_> {
-    /// The round of a cut after the one that has begun.
-    pub fn next_round(&self, cut: PointId) -> u64 {
-        match self.cuts.find(cut) {
-            Some(own) => own.round.saturating_add(1),
-            None => 1,
-        }
-    }
-
-    /// The round in which a head is walked from when it changes now.
-    pub fn next_turn(&self, place: usize) -> u64 {
-        match self.heads.as_slice().get(place) {
-            Some(head) => self.next_round(head.cut),
-            None => 1,
-        }
-    }
-
     /// The next stamp.
     pub fn next_stamp(&mut self) -> u64 {
         self.stamp = self.stamp.saturating_add(1);
         self.stamp
     }
 
-    /// Begins the round in which a head is walked from, unless it has begun. Its cut, where that has had all its rounds, or
-    /// too many steps.
-    pub fn overdue(&mut self, place: usize) -> Option<PointId> {
-        let head = self.heads.as_slice().get(place)?;
-        let own = self.cuts.find_mut(head.cut)?;
-        if own.round < head.turn {
-            own.round = head.turn;
+    /// Whether too many steps were spent on walks from a cut.
+    fn is_spent(&self, cut: PointId) -> bool {
+        let points = self.task.graph.size() as u64;
+        let most = points.saturating_mul(SPENT_EACH).max(SPENT);
+        match self.cuts.find(cut) {
+            Some(own) => own.spent > most && !own.rung.loses,
+            None => false,
         }
-        let is_over = own.round > self.limits.rounds;
-        let is_spent = own.spent > SPENT && !own.rung.loses;
-        if is_over || is_spent {
-            Some(head.cut)
+    }
+
+    /// Counts a round of a head that is walked from, if it is new or has changed. Its cut, where the head has had all its
+    /// rounds, or the cut too many steps.
+    pub fn overdue(&mut self, place: usize) -> Option<PointId> {
+        let head = self.heads.get_mut(place)?;
+        if head.is_fresh {
+            head.is_fresh = false;
+            head.turns = head.turns.saturating_add(1);
+        }
+        let cut = head.cut;
+        let is_over = head.turns > self.limits.rounds;
+        if is_over || self.is_spent(cut) {
+            Some(cut)
         } else {
             None
         }

@@ -8,8 +8,8 @@ use mc_find_view::live::Asserted;
 use mc_find_view::sight::Sight;
 
 /// How much an attempt may take: states of a cut, and rounds of a cut; and whether the points where the two ways of an `if`
-/// meet are cuts too. A round of a cut is one walk from its states that are new or have changed; what comes or changes
-/// meanwhile waits for the next round.
+/// meet are cuts too. A round of a state is one walk from it where it is new or has
+/// changed since.
 #[derive(Clone, Copy, Debug, PartialEq, Eq)]
 pub struct Limits {
     pub keys: usize,
