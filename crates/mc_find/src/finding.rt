@@ -72,7 +72,8 @@ pub fn certified(
     }
 }
 
-/// Another attempt, for which at most so many steps are left; what it takes without success is left no more.
+/// Another attempt, for which at most so many steps are left, of which it may take a part; what it takes without success is left
+/// no more.
 fn try_again(
     alloc: Global,
     task: Task<'_>,
@@ -84,10 +85,11 @@ fn try_again(
         (λ found. IfSome found
         (λ lines. IsFound task.entry.sight.flow.now task.entry.sight.defs.now limits.entry.merge lines.items)) }
 {
-    let mut attempt = new_attempt(alloc, task, limits, *left)?;
+    let steps = (*left).min(all_steps(task) / 2);
+    let mut attempt = new_attempt(alloc, task, limits, steps)?;
     attempt.blame_cuts();
     let is_whole = attempt.run()?;
-    *left = attempt.left();
+    *left = left.saturating_sub(steps.saturating_sub(attempt.left()));
     if is_whole {
         certified(alloc, task, limits.merge, attempt)
     } else {
@@ -119,7 +121,7 @@ pub fn other_certificate(
         (λ lines. IsFound task.entry.sight.flow.now task.entry.sight.defs.now limits.entry.merge lines.items)) }
 {
     let own = fewer(limits);
-    let mut left = all_steps(task);
+    let mut left = all_steps(task).saturating_mul(2);
     if own.keys < limits.keys {
         let found = try_again(alloc, task, own, &mut left)?;
         if found.is_some() {

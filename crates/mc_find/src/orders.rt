@@ -4,7 +4,7 @@ use mc_base::{NoMemory, PredId};
 use mc_flow::Instr;
 use std::alloc::Global;
 
-/// The most predicates of which each is left out once.
+/// The most predicates that the program does not name of which each is left out once.
 const FEW: usize = 6;
 
 /// Whether a program assumes or asserts a predicate.
@@ -70,63 +70,95 @@ fn needed(alloc: Global, task: Task<'_>) -> Result<Vec<PredId>, NoMemory> {
     Ok(list)
 }
 
-/// The wanted predicates, of those in a list alone, in their order.
-fn kept(alloc: Global, task: Task<'_>, list: &[PredId]) -> Result<Vec<PredId>, NoMemory> {
+/// The wanted predicates that are in a list, or those that are not, in their order.
+fn parted(
+    alloc: Global,
+    task: Task<'_>,
+    list: &[PredId],
+    is_in: bool,
+) -> Result<Vec<PredId>, NoMemory> {
     let mut some = Vec::new(alloc);
     for pred in task.wanted {
-        if list.contains(pred) {
+        if list.contains(pred) == is_in {
             some.push(*pred)?;
         }
     }
     Ok(some)
 }
 
-/// The wanted predicates, those that are not in a list the other way round.
-fn turned(alloc: Global, task: Task<'_>, list: &[PredId]) -> Result<Vec<PredId>, NoMemory> {
-    let mut some = kept(alloc, task, list)?;
-    for behind in 0..task.wanted.len() {
-        let left = task.wanted.len() - 1 - behind;
-        if let Some(pred) = task.wanted.get(left) {
-            if !list.contains(pred) {
-                some.push(*pred)?;
-            }
+/// Some predicates, then others from a place on, and at last those before it.
+fn rotated(
+    alloc: Global,
+    first: &[PredId],
+    others: &[PredId],
+    start: usize,
+) -> Result<Vec<PredId>, NoMemory> {
+    let mut some = Vec::from_slice(alloc, first)?;
+    for (place, pred) in others.iter().enumerate() {
+        if place >= start {
+            some.push(*pred)?;
         }
     }
-    Ok(some)
-}
-
-/// The wanted predicates without one.
-fn without(alloc: Global, task: Task<'_>, other: PredId) -> Result<Vec<PredId>, NoMemory> {
-    let mut some = Vec::new(alloc);
-    for pred in task.wanted {
-        if *pred != other {
+    for (place, pred) in others.iter().enumerate() {
+        if place < start {
             some.push(*pred)?;
         }
     }
     Ok(some)
 }
 
-/// Other lists of predicates that are wanted: those alone that the program names or that these call; those that it does not
-/// name the other way round; and each of these left out once, if they are few.
+/// Some predicates, then others but one.
+fn without(
+    alloc: Global,
+    first: &[PredId],
+    others: &[PredId],
+    left_out: PredId,
+) -> Result<Vec<PredId>, NoMemory> {
+    let mut some = Vec::from_slice(alloc, first)?;
+    for pred in others {
+        if *pred != left_out {
+            some.push(*pred)?;
+        }
+    }
+    Ok(some)
+}
+
+/// Adds lists in which some predicates come first, and then others that each begin elsewhere, forward or backward.
+fn push_turned(
+    alloc: Global,
+    lists: &mut Vec<Vec<PredId>>,
+    first: &[PredId],
+    others: &[PredId],
+) -> Result<(), NoMemory> {
+    let mut back = Vec::from_slice(alloc, others)?;
+    back.reverse();
+    for start in 0..others.len() {
+        lists.push(rotated(alloc, first, back.as_slice(), start)?)?;
+        if start > 0 {
+            lists.push(rotated(alloc, first, others, start)?)?;
+        }
+    }
+    Ok(())
+}
+
+/// Other lists of predicates that are wanted: those alone that the program names or that these call; then, if the others are
+/// few, each of them left out once, and in other orders.
 pub fn orders(alloc: Global, task: Task<'_>) -> Result<Vec<Vec<PredId>>, NoMemory> {
     let named = needed(alloc, task)?;
-    let others = task.wanted.len().saturating_sub(named.len());
+    let first = parted(alloc, task, named.as_slice(), true)?;
+    let others = parted(alloc, task, named.as_slice(), false)?;
     let mut lists = Vec::new(alloc);
-    if others == 0 {
+    if others.is_empty() {
         return Ok(lists);
     }
-    if !named.is_empty() {
-        lists.push(kept(alloc, task, named.as_slice())?)?;
+    if !first.is_empty() {
+        lists.push(Vec::from_slice(alloc, first.as_slice())?)?;
     }
-    if others > 1 {
-        lists.push(turned(alloc, task, named.as_slice())?)?;
-        if others <= FEW {
-            for pred in task.wanted {
-                if !named.as_slice().contains(pred) {
-                    lists.push(without(alloc, task, *pred)?)?;
-                }
-            }
+    if others.len() > 1 && others.len() <= FEW {
+        for pred in others.as_slice() {
+            lists.push(without(alloc, first.as_slice(), others.as_slice(), *pred)?)?;
         }
+        push_turned(alloc, &mut lists, first.as_slice(), others.as_slice())?;
     }
     Ok(lists)
 }

@@ -62,8 +62,8 @@ pub struct Task<'a> {
 impl<'a> Task<'a> {
     /// The same, with other predicates in another order.
     pub fn wanting(self, wanted: &'a [PredId]) -> Task<'a>
-        ensures flow { result.sight.flow.now ≡ self.sight.flow.now }
-        ensures defs { result.sight.defs.now ≡ self.sight.defs.now }
+        ensures flow { result.sight.flow.now ≡ self.entry.sight.flow.now }
+        ensures defs { result.sight.defs.now ≡ self.entry.sight.defs.now }
     {
         Task {
             sight: self.sight,
