@@ -7,6 +7,7 @@ ghost use Rattle.mc_find.specs.Analysis.Findings.{IsProposed};
 
 use crate::accepted::{is_found, reported};
 use crate::analysis::Proposed;
+use crate::finding::all_steps;
 use crate::rank::Rank;
 use crate::walks::{Aim, Attempt, Blocked, Limits, Rung, Step, Style, Task, first_rung};
 use mc_base::NoMemory;
@@ -246,7 +247,12 @@ fn try_begun(
 {
     let mut attempt = begun;
     let steps = at_least(task, STEPS, STEPS_EACH);
-    attempt.turn_to_chain(faults, steps / 4)?;
+    let first = if faults.is_empty() {
+        all_steps(task) / 2
+    } else {
+        steps / 4
+    };
+    attempt.turn_to_chain(faults, first)?;
     let mut is_whole = attempt.run()?;
     if !is_whole {
         attempt.stop_blaming(steps)?;
@@ -363,11 +369,12 @@ pub fn try_all(
     let mut left = at_least(task, STEPS, STEPS_EACH).saturating_mul(WHOLE);
     let mut rest = begun;
     let mut best: Option<Offer> = None;
-    for (place, style) in styles().iter().enumerate() {
-        if faults.is_empty() || place > 0 {
-            best = after_begun(alloc, task, limits, faults, &mut rest, best)?;
-        }
+    if faults.is_empty() {
+        best = after_begun(alloc, task, limits, faults, &mut rest, best)?;
+    }
+    for style in &styles() {
         best = after_style(alloc, task, *style, limits, faults, best, &mut left)?;
+        best = after_begun(alloc, task, limits, faults, &mut rest, best)?;
     }
     Ok(best_of(best))
 }

@@ -108,7 +108,7 @@ fn fewer(limits: Limits) -> Limits
     }
 }
 
-/// Further attempts after one that looked in vain: with fewer heads where there may be many, and with the predicates in other
+/// Further attempts after one that found nothing: with fewer heads where there may be many, and with the predicates in other
 /// orders, or without some. What more is wanted and allowed than is needed costs no proof so.
 pub fn other_certificate(
     alloc: Global,

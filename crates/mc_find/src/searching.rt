@@ -31,7 +31,7 @@ fn settle(
     }
 }
 
-/// What is found after an attempt that looked in vain by the plan with which each cut begins. Where a fault is met before
+/// What is found after an attempt that found nothing by the plan with which each cut begins. Where a fault is met before
 /// anything is folded there is no certificate: folding only forgets, so each other plan would be blocked there.
 fn search_on(
     alloc: Global,

@@ -70,6 +70,11 @@ impl Attempt<'_> {
         images: &[NodeId],
     ) -> Result<Way, NoMemory> {
         let stamp = self.next_stamp();
+        let turns = match self.heads.as_slice().get(place) {
+            Some(head) => head.turns,
+            None => return Ok(Way::Stuck),
+        };
+        let thresholds = self.thresholds(turns);
         let Some(head) = self.heads.get_mut(place) else {
             return Ok(Way::Stuck);
         };
@@ -77,7 +82,6 @@ impl Attempt<'_> {
         head.is_fresh = true;
         head.stamp = stamp;
         let known = state.known();
-        let thresholds = self.paths.thresholds();
         let joint = joint_atoms(
             self.alloc,
             thresholds,

@@ -1,4 +1,7 @@
 // How often is walked from a state of a cut.
+ghost use Rattle.std.specs.Prelude.{All};
+ghost use Rattle.mc_base.specs.Ranges.Ends.{IsInt};
+
 use crate::walks::Attempt;
 use mc_base::PointId;
 
@@ -8,11 +11,23 @@ const SPENT: u64 = 40_000;
 /// How many steps may be spent for each point.
 const SPENT_EACH: u64 = 50;
 
-impl Attempt<'_> {
+impl<'a> Attempt<'a> {
     /// The next stamp.
     pub fn next_stamp(&mut self) -> u64 {
         self.stamp = self.stamp.saturating_add(1);
         self.stamp
+    }
+
+    /// The numbers at which ranges stop that are widened, of a head that has had so many rounds: none where most of them are
+    /// over, so that it comes to rest.
+    pub fn thresholds(&self, turns: u64) -> &'a [i64]
+        ensures { All IsInt result.now }
+    {
+        if turns < self.limits.rounds.saturating_sub(self.limits.rounds / 3) {
+            self.paths.thresholds()
+        } else {
+            &[]
+        }
     }
 
     /// Whether too many steps were spent on walks from a cut.
