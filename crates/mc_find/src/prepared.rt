@@ -28,7 +28,12 @@ impl Prepared {
     pub fn of(alloc: Global, flow: &Flow, defs: &Defs, merge: bool) -> Result<Prepared, NoMemory> {
         let live = live_variables(alloc, flow)?;
         let stored = StoredFields::of(alloc, flow)?;
-        let constants = constant_variables(alloc, flow)?;
+        // States that are merged are told apart by no constants.
+        let constants = if merge {
+            Vec::new(alloc)
+        } else {
+            constant_variables(alloc, flow)?
+        };
         let wanted = wanted_predicates(alloc, flow, defs)?;
         let asserted = asserted_shapes(alloc, flow)?;
         let cuts = first_cuts(alloc, flow, merge)?;

@@ -5,6 +5,7 @@ use Rattle.mc_kernel.specs.Branches.{Path}
 use Rattle.mc_kernel.specs.Reading.Documents.{IsShortChain}
 use Rattle.mc_find.specs.Analysis.Findings.{IsFound, under_header}
 use Rattle.mc_find.proofs.AnalysisLemmas.CalmPlaces.{calm_is_found}
+use Rattle.mc_find.proofs.AnalysisLemmas.Answers.{proved_so}
 use Rattle.mc_find.proofs.analysis.finding.calm.Goals as goal
 
 pub returns : goal.returns
@@ -19,4 +20,5 @@ returns c =
     let found : IsFound flow defs false (under_header lines) =
     calm_is_found c.lines_are_judged.ensures.judged c.lines_make_well_made.ensures c.numbers_stay_bounded.ensures.unknown flow defs lines c.requires.valid
     c.requires.no_loops chain whole.within whole.places in
-    IfOk-at c.proved.ensures false (subst (λ (ls : List Line). IsFound flow defs false ls) (sym c.in_ok-lines.ensures ∙ same) found)
+    let here : IsFound flow defs false c.as_slice.result.now = subst (λ (ls : List Line). IsFound flow defs false ls) (sym c.in_ok-lines.ensures ∙ same) found in
+    proved_so flow defs false c.as_slice.result.now c.proved.result here c.proved.ensures
