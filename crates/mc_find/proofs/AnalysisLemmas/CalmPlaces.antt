@@ -25,7 +25,7 @@ use Rattle.mc_kernel.specs.Reading.Laws.{LinesMakeWellMade}
 use Rattle.mc_kernel.proofs.ReadingLemmas.Front.{head_line}
 use Rattle.mc_kernel.proofs.ReadingLemmas.Lists.{all_join}
 use Rattle.mc_kernel.proofs.ReadingLemmas.Rules.{ruling_at}
-use Rattle.mc_document.specs.Places.{AreInPlace, HasPlaces, cut_of, cuts_of, may_stand}
+use Rattle.mc_document.specs.Places.{AreInPlace, HasPlaces, cuts_of, may_stand}
 use Rattle.mc_document.proofs.PlacesLemmas.{one_next}
 use Rattle.mc_document.proofs.ProofLemmas.Roots.{roots_made}
 use Rattle.mc_follow.specs.Alarms.Outcomes.{IsWhole}
