@@ -1,9 +1,9 @@
 -- What is accepted.
-use Rattle.std.proofs.Common.{arith, subst, ◌≡◌, ◌<◌, ◌≤◌, ◌+◌, ◌∙◌, ℕ, Bool, true, false, List, [], ◌∷◌, ◌++◌, length, drop, get_or, refl, sym, ap}
-use Rattle.std.specs.Prelude.{◌↔◌}
+use Rattle.std.proofs.Common.{arith, subst, ◌≡◌, ◌<◌, ◌≤◌, ◌∙◌, Bool, true, false, IsTrue, List, [], ◌∷◌, length, refl, sym, ap}
+use Rattle.std.specs.Prelude.{◌↔◌, All, Contains}
 use Rattle.mc_base.specs.declared.ids.PointId.{PointId}
 use Rattle.mc_lines.specs.declared.cert.line.Line.{Line}
-use Rattle.mc_lines.specs.declared.cert.line.Line.TheVariants.{Cut, Header}
+use Rattle.mc_lines.specs.declared.cert.line.Line.TheVariants.{Header}
 use Rattle.mc_flow.specs.declared.defs.rules.Def.{Def}
 use Rattle.mc_flow.specs.declared.graph.Flow.{Flow}
 use Rattle.mc_flow.specs.Valid.{IsValid}
@@ -15,8 +15,7 @@ use Rattle.mc_kernel.specs.Readings.{Reading}
 use Rattle.mc_kernel.specs.Reading.Documents.{IsShortChain}
 use Rattle.mc_kernel.specs.Reading.Laws.{ChainsAreRead}
 use Rattle.mc_kernel.proofs.ReadingLemmas.Rules.{same_reading}
-use Rattle.mc_document.specs.Places.{IsCertificateInPlace, cut_of, cuts_of}
-use Rattle.mc_document.proofs.CertifiedLemmas.Reading.{none_behind, rest_at}
+use Rattle.mc_document.specs.Places.{IsCertificateInPlace, cuts_of}
 use Rattle.mc_follow.specs.declared.report.chains.ChainReport.{ChainReport}
 use Rattle.mc_follow.specs.Alarms.Walks.{ended_by}
 use Rattle.mc_follow.specs.Report.Chains.{IsNoChain, IsReportOf}
@@ -24,18 +23,32 @@ use Rattle.mc_find.specs.Analysis.Findings.{HasCuts, IsFound, IsFoundChain, IsRe
 
 -- ---- cuts
 
--- a line that is no cut has no point
-pub no_cut : (l : Line) → ((p : PointId) → l ≡ Cut p → ⊥) → cut_of l ≡ []
-no_cut (Cut p) none = absurd (none p refl)
-no_cut other none = refl
+-- what a test of points says, in other words
+pub moved : (cuts cuts_are points points_are : List PointId) (is : Bool) → cuts ≡ cuts_are → points ≡ points_are → IsTrue is ↔ All (Contains cuts) points → IsTrue is ↔ All (Contains cuts_are) points_are
+moved cuts cuts_are points points_are is e f told =
+    subst (λ (ps : List PointId). IsTrue is ↔ All (Contains cuts_are) ps) f (subst (λ (cs : List PointId). IsTrue is ↔ All (Contains cs) points) e told)
 
--- the cuts that are left at a line: its own, and those of the lines behind it
-pub cuts_at : (lines : List Line) (i : ℕ) (l : Line) → i < length lines → l ≡ get_or lines i l → cuts_of (drop i lines) ≡ cut_of l ++ cuts_of (drop (i + 1) lines)
-cuts_at lines i l within there = ap cuts_of (rest_at lines i l within there)
+module _ (flow : Flow) (merge : Bool) (lines : List Line) where
+  abbrev AreCuts : List PointId → Type 0
+  AreCuts = All (Contains (cuts_of lines))
 
--- after the last line none is left
-pub no_cuts_left : (lines : List Line) (i : ℕ) → length lines ≤ i → cuts_of (drop i lines) ≡ []
-no_cuts_left lines i past = ap cuts_of (none_behind lines i past)
+  -- a loop head is missing
+  pub some_missing : (is : Bool) → is ≡ false → IsTrue is ↔ AreCuts flow.heads → IsTrue false ↔ HasCuts flow merge lines
+  some_missing is missing told = (λ e. absurd (cc e), λ has. sym missing ∙ told.1 has.heads)
+
+  -- all loop heads are there, and the points where an `if` ends are asked for
+  pub rest_told : merge ≡ true → (is also : Bool) → is ≡ true → IsTrue is ↔ AreCuts flow.heads → IsTrue also ↔ AreCuts flow.merges → IsTrue also ↔ HasCuts flow merge lines
+  rest_told merges is also there told more = (
+    λ all. record { heads = told.0 there; merges = λ m. more.0 all },
+    λ has. more.1 (has.merges merges),
+  )
+
+  -- or are not
+  pub all_told : merge ≡ false → (is : Bool) → is ≡ true → IsTrue is ↔ AreCuts flow.heads → IsTrue true ↔ HasCuts flow merge lines
+  all_told no_merge is there told = (
+    λ all. record { heads = told.0 there; merges = λ m. absurd (let clash : false ≡ true = sym no_merge ∙ m in cc clash) },
+    λ has. refl,
+  )
 
 -- a program without loops, whose states are not merged, asks for no cuts
 pub none_asked : (flow : Flow) (lines : List Line) → flow.heads ≡ [] → HasCuts flow false lines

@@ -1,6 +1,6 @@
 // Which lines are accepted of an attempt.
-ghost use Rattle.std.specs.Prelude.{◌≡◌, ◌↔◌, All, Contains, IsTrue, None, true, IfOk, IfSome};
-ghost use Rattle.mc_document.specs.Places.{cuts_of};
+ghost use Rattle.std.specs.Prelude.{◌≡◌, ◌↔◌, All, Contains, IsTrue, None, true, IfOk, IfSome, option_to_list};
+ghost use Rattle.mc_document.specs.Places.{cut_of, cuts_of};
 ghost use Rattle.mc_find.specs.Analysis.Findings.{HasCuts, IsFound, IsFoundChain, IsReported};
 ghost use Rattle.mc_flow.specs.Valid.{IsValid};
 
@@ -14,25 +14,46 @@ use mc_kernel::reading::documents_are_read;
 use mc_lines::cert::Line;
 use std::alloc::Global;
 
-/// The points of the cuts of the lines.
+/// The point of a cut line.
+fn cut_at(line: &Line) -> Option<PointId>
+    ensures { option_to_list result ≡ cut_of line.now }
+{
+    match line {
+        Line::Cut(point) => Some(*point),
+        _ => None,
+    }
+}
+
+/// The points of the cut lines among these.
 fn cuts_in(alloc: Global, lines: &[Line]) -> Result<Vec<PointId>, NoMemory>
     ensures { IfOk result (λ cuts. cuts.items ≡ cuts_of lines.now) }
 {
     let mut cuts = Vec::new(alloc);
     for line in lines {
-        match line {
-            Line::Cut(point) => cuts.push(*point)?,
-            _ => {}
+        if let Some(point) = cut_at(line) {
+            cuts.push(point)?;
         }
     }
     Ok(cuts)
 }
 
-/// Whether each of these points is a cut.
+/// Whether a point is among the cuts.
+fn is_cut(cuts: &[PointId], point: PointId) -> bool
+    ensures { IsTrue result ↔ Contains cuts.now point }
+{
+    cuts.contains(&point)
+}
+
+/// Whether each of these points is.
 fn are_cuts(cuts: &[PointId], points: &[PointId]) -> bool
     ensures { IsTrue result ↔ All (Contains cuts.now) points.now }
 {
-    points.iter().all(|point| cuts.contains(point))
+    for point in points {
+        if !is_cut(cuts, *point) {
+            return false;
+        }
+    }
+    true
 }
 
 /// Whether the lines have the cuts that are asked for: the loop heads, and where states are merged the points where an `if`

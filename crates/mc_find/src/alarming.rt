@@ -220,7 +220,7 @@ fn try_one(
     left: &mut u64,
 ) -> Result<Option<Offer>, NoMemory>
     requires { IsValid task.sight.flow.now task.sight.defs.now }
-    ensures { IfOk result (λ found. IfSome found (λ offer. IsProposed task.entry.sight.flow.now task.entry.sight.defs.now limits.entry.merge offer.proposed)) }
+    ensures { IfOk result (λ found. IfSome found (λ offer. IsProposed task.entry.sight.flow.now task.entry.sight.defs.now limits.merge offer.proposed)) }
 {
     let steps = at_least(task, STEPS, STEPS_EACH).min(*left);
     let mut attempt = Attempt::new(alloc, task, Aim::Chain, style, limits, steps)?;
@@ -243,7 +243,7 @@ fn try_begun(
     best: &Option<Offer>,
 ) -> Result<Option<Offer>, NoMemory>
     requires { IsValid task.sight.flow.now task.sight.defs.now }
-    ensures { IfOk result (λ found. IfSome found (λ offer. IsProposed task.entry.sight.flow.now task.entry.sight.defs.now limits.entry.merge offer.proposed)) }
+    ensures { IfOk result (λ found. IfSome found (λ offer. IsProposed task.entry.sight.flow.now task.entry.sight.defs.now limits.merge offer.proposed)) }
 {
     let mut attempt = begun;
     let steps = at_least(task, STEPS, STEPS_EACH);
@@ -316,7 +316,7 @@ fn after_begun(
 ) -> Result<Option<Offer>, NoMemory>
     requires valid { IsValid task.sight.flow.now task.sight.defs.now }
     requires best { IfSome best (λ offer. IsProposed task.sight.flow.now task.sight.defs.now limits.merge offer.proposed) }
-    ensures { IfOk result (λ found. IfSome found (λ offer. IsProposed task.entry.sight.flow.now task.entry.sight.defs.now limits.entry.merge offer.proposed)) }
+    ensures { IfOk result (λ found. IfSome found (λ offer. IsProposed task.entry.sight.flow.now task.entry.sight.defs.now limits.merge offer.proposed)) }
 {
     if is_settled(&best, faults) || is_right(&best) {
         return Ok(best);
@@ -342,7 +342,7 @@ fn after_style(
 ) -> Result<Option<Offer>, NoMemory>
     requires valid { IsValid task.sight.flow.now task.sight.defs.now }
     requires best { IfSome best (λ offer. IsProposed task.sight.flow.now task.sight.defs.now limits.merge offer.proposed) }
-    ensures { IfOk result (λ found. IfSome found (λ offer. IsProposed task.entry.sight.flow.now task.entry.sight.defs.now limits.entry.merge offer.proposed)) }
+    ensures { IfOk result (λ found. IfSome found (λ offer. IsProposed task.entry.sight.flow.now task.entry.sight.defs.now limits.merge offer.proposed)) }
 {
     if *left == 0 || !is_needed(&style, &best, faults) {
         return Ok(best);
@@ -364,7 +364,7 @@ pub fn try_all(
     begun: Option<Attempt<'_>>,
 ) -> Result<Option<Proposed>, NoMemory>
     requires { IsValid task.sight.flow.now task.sight.defs.now }
-    ensures { IfOk result (λ found. IfSome found (λ proposed. IsProposed task.entry.sight.flow.now task.entry.sight.defs.now limits.entry.merge proposed)) }
+    ensures { IfOk result (λ found. IfSome found (λ proposed. IsProposed task.entry.sight.flow.now task.entry.sight.defs.now limits.merge proposed)) }
 {
     let mut left = at_least(task, STEPS, STEPS_EACH).saturating_mul(WHOLE);
     let mut rest = begun;

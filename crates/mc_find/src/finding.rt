@@ -83,7 +83,7 @@ fn try_again(
     requires { IsValid task.sight.flow.now task.sight.defs.now }
     ensures { IfOk result
         (λ found. IfSome found
-        (λ lines. IsFound task.entry.sight.flow.now task.entry.sight.defs.now limits.entry.merge lines.items)) }
+        (λ lines. IsFound task.entry.sight.flow.now task.entry.sight.defs.now limits.merge lines.items)) }
 {
     let steps = (*left).min(all_steps(task) / 2);
     let mut attempt = new_attempt(alloc, task, limits, steps)?;
@@ -99,7 +99,7 @@ fn try_again(
 
 /// The limits with which the search is made again.
 fn fewer(limits: Limits) -> Limits
-    ensures { result.merge ≡ limits.entry.merge }
+    ensures { result.merge ≡ limits.merge }
 {
     Limits {
         keys: limits.keys.min(KEYS),
@@ -118,7 +118,7 @@ pub fn other_certificate(
     requires { IsValid task.sight.flow.now task.sight.defs.now }
     ensures { IfOk result
         (λ found. IfSome found
-        (λ lines. IsFound task.entry.sight.flow.now task.entry.sight.defs.now limits.entry.merge lines.items)) }
+        (λ lines. IsFound task.entry.sight.flow.now task.entry.sight.defs.now limits.merge lines.items)) }
 {
     let own = fewer(limits);
     let mut left = all_steps(task).saturating_mul(2);

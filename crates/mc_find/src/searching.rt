@@ -23,7 +23,7 @@ fn settle(
     requires { IsValid task.sight.flow.now task.sight.defs.now }
     ensures { IfOk result
         (λ found. IfSome found
-        (λ proposed. IsProposed task.entry.sight.flow.now task.entry.sight.defs.now limits.entry.merge proposed)) }
+        (λ proposed. IsProposed task.entry.sight.flow.now task.entry.sight.defs.now limits.merge proposed)) }
 {
     match certified(alloc, task, limits.merge, attempt)? {
         Some(lines) => Ok(Some(Proposed::Certificate(lines))),
@@ -42,7 +42,7 @@ fn search_on(
     requires { IsValid task.sight.flow.now task.sight.defs.now }
     ensures { IfOk result
         (λ found. IfSome found
-        (λ proposed. IsProposed task.entry.sight.flow.now task.entry.sight.defs.now limits.entry.merge proposed)) }
+        (λ proposed. IsProposed task.entry.sight.flow.now task.entry.sight.defs.now limits.merge proposed)) }
 {
     let mut attempt = begun;
     let faults = first_faults(alloc, task)?;
@@ -63,7 +63,7 @@ fn search_task(alloc: Global, task: Task<'_>, limits: Limits) -> Result<Option<P
     requires { IsValid task.sight.flow.now task.sight.defs.now }
     ensures { IfOk result
         (λ found. IfSome found
-        (λ proposed. IsProposed task.entry.sight.flow.now task.entry.sight.defs.now limits.entry.merge proposed)) }
+        (λ proposed. IsProposed task.entry.sight.flow.now task.entry.sight.defs.now limits.merge proposed)) }
 {
     let mut attempt = new_attempt(alloc, task, limits, all_steps(task))?;
     if attempt.run()? {
@@ -85,7 +85,7 @@ pub fn search(
     limits: Limits,
 ) -> Result<Option<Proposed>, NoMemory>
     requires { IsValid flow.now defs.now }
-    ensures { IfOk result (λ found. IfSome found (λ proposed. IsProposed flow.now defs.now limits.entry.merge proposed)) }
+    ensures { IfOk result (λ found. IfSome found (λ proposed. IsProposed flow.now defs.now limits.merge proposed)) }
 {
     let prepared = Prepared::of(alloc, flow, defs, limits.merge)?;
     search_task(alloc, prepared.task(flow, defs), limits)
