@@ -1,123 +1,137 @@
 // The search for a certificate.
-ghost use Rattle.std.specs.Prelude.{IfOk, IfSome};
+ghost use Rattle.std.specs.Prelude.{◌≡◌, IfOk, IfSome};
 ghost use Rattle.mc_flow.specs.Valid.{IsValid};
 ghost use Rattle.mc_find.specs.Analysis.Findings.{IsFound};
 
 use crate::accepted::is_found;
-use crate::walks::{Aim, Attempt, Limits, Outcome, Step, Style, Task, first_rung};
+use crate::orders::orders;
+use crate::walks::{Aim, Attempt, Limits, Step, Style, Task, first_rung};
 use mc_base::NoMemory;
-use mc_lines::cert::Line;
+use mc_lines::cert::{Form, Line};
 use std::alloc::Global;
 
-/// How one attempt folds, and how many states a cut may have.
-#[derive(Clone, Copy)]
-struct Plan {
-    style: Style,
-    keys: usize,
+/// So many steps an attempt may take for each point of a program.
+const EACH: u64 = 500;
+
+/// So many steps it may take besides.
+const BESIDES: u64 = 20_000;
+
+/// The number of heads of a cut with which a search is made again that was made with more.
+const KEYS: usize = 16;
+
+/// How many steps an attempt at a certificate may take.
+pub fn all_steps(task: Task<'_>) -> u64 {
+    let points = task.graph.size() as u64;
+    points.saturating_mul(EACH).saturating_add(BESIDES)
 }
 
-/// A plan for an attempt.
-const fn planned(before: usize, room: i64, step: Step, keys: usize) -> Plan {
-    Plan {
-        style: Style {
-            before,
-            room,
-            rung: first_rung(step),
-            heads: 0,
-            nulls: false,
-        },
-        keys,
+/// How the attempt at a certificate folds; where it goes on as one at a chain, heads lose in the end.
+const fn folding() -> Style {
+    Style {
+        rung: first_rung(Step::Plain),
+        heads: 4,
+        nulls: false,
     }
 }
 
-/// The plans of the attempts after the first, in their order.
-const fn later_plans(keys: usize) -> [Plan; 9] {
-    let many = keys.saturating_mul(4);
-    [
-        planned(0, 0, Step::Coarse, keys),
-        planned(1, 0, Step::Plain, keys),
-        planned(2, 0, Step::Plain, keys),
-        planned(0, 1, Step::Plain, keys),
-        planned(0, -1, Step::Plain, keys),
-        planned(0, 0, Step::Whole, keys),
-        planned(0, 0, Step::Match, keys),
-        planned(0, 0, Step::Plain, many),
-        planned(0, 0, Step::Coarse, many),
-    ]
+/// An attempt at a certificate that has not begun.
+pub fn new_attempt<'a>(
+    alloc: Global,
+    task: Task<'a>,
+    limits: Limits,
+    steps: u64,
+) -> Result<Attempt<'a>, NoMemory>
+    requires { IsValid task.sight.flow.now task.sight.defs.now }
+{
+    Attempt::new(alloc, task, Aim::Certificate, folding(), limits, steps)
 }
 
-/// How many attempts may take all their lines without success.
-const WHOLE: u64 = 3;
-
-/// The lines that all attempts may take together.
-pub fn lines_in_all(limits: Limits) -> u64 {
-    limits.lines.saturating_mul(WHOLE)
-}
-
-/// One attempt, for which at most so many lines are left; what it takes without success is left no more. What is no valid
-/// certificate, has other cuts than the loop heads, ends too many branches, or has a line out of place counts as nothing.
-fn try_one(
+/// The lines of an attempt that is whole, where they are a certificate that is accepted.
+pub fn certified(
     alloc: Global,
     task: Task<'_>,
-    plan: Plan,
+    merge: bool,
+    attempt: Attempt<'_>,
+) -> Result<Option<Vec<Line>>, NoMemory>
+    requires { IsValid task.sight.flow.now task.sight.defs.now }
+    ensures { IfOk result
+        (λ found. IfSome found
+        (λ lines. IsFound task.entry.sight.flow.now task.entry.sight.defs.now merge lines.items)) }
+{
+    let lines = attempt.document(Form::Certificate)?;
+    if is_found(
+        alloc,
+        task.sight.flow,
+        task.sight.defs,
+        merge,
+        lines.as_slice(),
+    )? {
+        Ok(Some(lines))
+    } else {
+        Ok(None)
+    }
+}
+
+/// Another attempt, for which at most so many steps are left, of which it may take a part; what it takes without success is left
+/// no more.
+fn try_again(
+    alloc: Global,
+    task: Task<'_>,
     limits: Limits,
     left: &mut u64,
 ) -> Result<Option<Vec<Line>>, NoMemory>
     requires { IsValid task.sight.flow.now task.sight.defs.now }
     ensures { IfOk result
         (λ found. IfSome found
-        (λ lines. IsFound task.entry.sight.flow.now task.entry.sight.defs.now lines.items)) }
+        (λ lines. IsFound task.entry.sight.flow.now task.entry.sight.defs.now limits.merge lines.items)) }
 {
-    let own = Limits {
-        lines: limits.lines.min(*left),
-        keys: plan.keys,
+    let steps = (*left).min(all_steps(task) / 2);
+    let mut attempt = new_attempt(alloc, task, limits, steps)?;
+    attempt.blame_cuts();
+    let is_whole = attempt.run()?;
+    *left = left.saturating_sub(steps.saturating_sub(attempt.left()));
+    if is_whole {
+        certified(alloc, task, limits.merge, attempt)
+    } else {
+        Ok(None)
+    }
+}
+
+/// The limits with which the search is made again.
+fn fewer(limits: Limits) -> Limits
+    ensures { result.merge ≡ limits.merge }
+{
+    Limits {
+        keys: limits.keys.min(KEYS),
         rounds: limits.rounds,
-    };
-    let attempt = Attempt::new(alloc, task, Aim::Certificate, plan.style, own)?;
-    let taken = match attempt.make()? {
-        Outcome::Found(lines) => {
-            if is_found(alloc, task.sight.flow, task.sight.defs, lines.as_slice())? {
-                return Ok(Some(lines));
-            }
-            own.lines
+        merge: limits.merge,
+    }
+}
+
+/// Further attempts after one that found nothing: with fewer heads where there may be many, and with the predicates in other
+/// orders, or without some. What more is wanted and allowed than is needed costs no proof so.
+pub fn other_certificate(
+    alloc: Global,
+    task: Task<'_>,
+    limits: Limits,
+) -> Result<Option<Vec<Line>>, NoMemory>
+    requires { IsValid task.sight.flow.now task.sight.defs.now }
+    ensures { IfOk result
+        (λ found. IfSome found
+        (λ lines. IsFound task.entry.sight.flow.now task.entry.sight.defs.now limits.merge lines.items)) }
+{
+    let own = fewer(limits);
+    let mut left = all_steps(task).saturating_mul(2);
+    if own.keys < limits.keys {
+        let found = try_again(alloc, task, own, &mut left)?;
+        if found.is_some() {
+            return Ok(found);
         }
-        Outcome::Failed(taken) => taken,
-    };
-    *left = left.saturating_sub(taken);
-    Ok(None)
-}
-
-/// The first attempt: the lines of a certificate, if it finds one.
-pub fn first_certificate(
-    alloc: Global,
-    task: Task<'_>,
-    limits: Limits,
-    left: &mut u64,
-) -> Result<Option<Vec<Line>>, NoMemory>
-    requires { IsValid task.sight.flow.now task.sight.defs.now }
-    ensures { IfOk result
-        (λ found. IfSome found
-        (λ lines. IsFound task.entry.sight.flow.now task.entry.sight.defs.now lines.items)) }
-{
-    let plan = planned(0, 0, Step::Plain, limits.keys);
-    try_one(alloc, task, plan, limits, left)
-}
-
-/// The attempts after the first, one after the other: the lines of the first certificate that is found.
-pub fn later_certificate(
-    alloc: Global,
-    task: Task<'_>,
-    limits: Limits,
-    left: &mut u64,
-) -> Result<Option<Vec<Line>>, NoMemory>
-    requires { IsValid task.sight.flow.now task.sight.defs.now }
-    ensures { IfOk result
-        (λ found. IfSome found
-        (λ lines. IsFound task.entry.sight.flow.now task.entry.sight.defs.now lines.items)) }
-{
-    for plan in &later_plans(limits.keys) {
-        if *left > 0 {
-            let found = try_one(alloc, task, *plan, limits, left)?;
+    }
+    let lists = orders(alloc, task)?;
+    for wanted in lists.as_slice() {
+        if left > 0 {
+            let found = try_again(alloc, task.wanting(wanted.as_slice()), own, &mut left)?;
             if found.is_some() {
                 return Ok(found);
             }

@@ -10,6 +10,7 @@ pub mod analysis;
 mod cuts;
 mod finding;
 pub mod matching;
+mod orders;
 mod prepared;
 mod rank;
 mod searching;

@@ -1,12 +1,12 @@
 // What is found out of a program once, before it is searched.
 ghost use Rattle.std.specs.Prelude.{◌≡◌};
 
-use crate::cuts::loop_heads;
-use crate::walks::Task;
+use crate::cuts::first_cuts;
+use crate::walks::{Graph, Task};
 use mc_base::{NoMemory, PointId, PredId};
 use mc_find_view::live::{
-    Asserted, Rows, StoredFields, asks_for_empty, asserted_shapes, constant_variables,
-    live_variables, wanted_predicates,
+    Asserted, Rows, StoredFields, asserted_shapes, constant_variables, live_variables,
+    wanted_predicates,
 };
 use mc_find_view::sight::Sight;
 use mc_flow::{Defs, Flow};
@@ -18,24 +18,30 @@ pub struct Prepared {
     live: Rows,
     stored: StoredFields,
     constants: Vec<bool>,
+    graph: Graph,
+    empties: Vec<bool>,
     wanted: Vec<PredId>,
     asserted: Vec<Asserted>,
     cuts: Vec<PointId>,
 }
 
 impl Prepared {
-    /// What is found out of a program.
-    pub fn of(alloc: Global, flow: &Flow, defs: &Defs) -> Result<Prepared, NoMemory> {
+    /// What is found out of a program, where the points at which two ways meet may be cuts too.
+    pub fn of(alloc: Global, flow: &Flow, defs: &Defs, merge: bool) -> Result<Prepared, NoMemory> {
         let live = live_variables(alloc, flow)?;
         let stored = StoredFields::of(alloc, flow)?;
         let constants = constant_variables(alloc, flow)?;
+        let graph = Graph::of(alloc, flow)?;
+        let empties = graph.reaching_empty(alloc, flow)?;
         let wanted = wanted_predicates(alloc, flow, defs)?;
         let asserted = asserted_shapes(alloc, flow)?;
-        let cuts = loop_heads(alloc, flow)?;
+        let cuts = first_cuts(alloc, flow, merge)?;
         Ok(Prepared {
             live,
             stored,
             constants,
+            graph,
+            empties,
             wanted,
             asserted,
             cuts,
@@ -53,10 +59,12 @@ impl Prepared {
             live: &self.live,
             stored: &self.stored,
             constants: self.constants.as_slice(),
-            all: asks_for_empty(flow),
+            all: false,
         };
         Task {
             sight,
+            graph: &self.graph,
+            empties: self.empties.as_slice(),
             wanted: self.wanted.as_slice(),
             asserted: self.asserted.as_slice(),
             cuts: self.cuts.as_slice(),

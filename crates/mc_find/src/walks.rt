@@ -3,16 +3,23 @@
 
 mod arriving;
 mod attempt;
+mod blame;
 mod certificate;
 mod common;
+mod crowding;
+mod cuts;
 mod distance;
 mod exploring;
 mod following;
+mod graph;
+mod hashing;
 mod heads;
+mod late;
 mod losing;
 mod matching;
 mod nearness;
 mod pairing;
+mod plans;
 mod reach;
 mod reached;
 mod rounds;
@@ -23,6 +30,7 @@ mod walked;
 mod walking;
 
 pub use crate::matching::Step;
-pub use attempt::{Attempt, Outcome};
+pub use attempt::Attempt;
+pub use graph::Graph;
 pub use style::{Aim, Limits, Rung, Style, Task, first_rung};
 pub use walked::{Blocked, count_missing};

@@ -1,6 +1,6 @@
 // The images of variables.
 use crate::matching::Fit;
-use mc_base::{Kind, NULL, NoMemory, NodeId, PointId, VarId};
+use mc_base::{Kind, NULL, NoMemory, NodeId, VarId};
 use mc_find_shrink::Manner;
 use mc_state::{RawState, Term};
 use mc_symbolic::State;
@@ -20,7 +20,6 @@ pub fn begin(
     alloc: Global,
     manner: Manner<'_>,
     state: &State,
-    point: PointId,
     head: &RawState,
     nulls: bool,
 ) -> Result<Option<Fit>, NoMemory> {
@@ -41,7 +40,7 @@ pub fn begin(
             continue;
         };
         let x = VarId(place as u64);
-        let Some(own) = manner.sight.live_node(state, point, x) else {
+        let Some(own) = state.var(x) else {
             return Ok(None);
         };
         let term = Term { node: own, add: 0 };

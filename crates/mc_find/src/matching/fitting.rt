@@ -97,7 +97,7 @@ pub fn find_fit(
     head: &RawState,
     nulls: bool,
 ) -> Result<Option<Fit>, NoMemory> {
-    let Some(first) = begin(alloc, manner, state, point, head, nulls)? else {
+    let Some(first) = begin(alloc, manner, state, head, nulls)? else {
         return Ok(None);
     };
     let ground = Ground {

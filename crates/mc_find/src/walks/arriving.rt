@@ -6,7 +6,7 @@ use crate::walks::walking::Way;
 use crate::walks::{Aim, Attempt};
 use mc_base::{EdgeId, Items, NoMemory, NodeId, PointId};
 use mc_check_line::jump::fits;
-use mc_find_view::sight::{Seen, look};
+use mc_find_view::sight::Seen;
 use mc_lines::cert::Line;
 use mc_symbolic::State;
 
@@ -34,18 +34,28 @@ pub fn jump(landing: Landing, trail: &mut Trail<'_>, walked: &mut Walked) -> Res
 impl Attempt<'_> {
     /// Whether a cut has as many heads as it may.
     fn is_crowded(&self, cut: PointId) -> bool {
-        !self.rung_at(cut).loses && self.heads_at(cut) >= self.limits.keys
+        !self.rung_at(cut).loses && self.heads_at(cut) >= self.plan_at(cut).keys
     }
 
     /// A new head of what was seen.
-    pub fn add_head(&mut self, cut: PointId, state: &State, seen: Seen) -> Result<Way, NoMemory> {
+    /// Those of the cut that are not reached, also not from these heads, make room.
+    pub fn add_head(
+        &mut self,
+        cut: PointId,
+        state: &State,
+        seen: Seen,
+        fresh: &[usize],
+    ) -> Result<Way, NoMemory> {
         if self.is_crowded(cut) {
-            return Ok(Way::Crowded(cut));
+            self.drop_unreached(cut, fresh)?;
+            if self.is_crowded(cut) {
+                return Ok(Way::Crowded(cut));
+            }
         }
         let Some(head) = self.head_of(cut, state, seen)? else {
             return Ok(Way::Stuck);
         };
-        self.heads.push(head)?;
+        self.push_head(head)?;
         if self.rung_at(cut).step == Step::Match {
             return self.absorb(cut);
         }
@@ -59,14 +69,19 @@ impl Attempt<'_> {
         state: &State,
         images: &[NodeId],
     ) -> Result<Way, NoMemory> {
-        let turn = self.next_turn(place);
+        let stamp = self.next_stamp();
+        let turns = match self.heads.as_slice().get(place) {
+            Some(head) => head.turns,
+            None => return Ok(Way::Stuck),
+        };
+        let thresholds = self.thresholds(turns);
         let Some(head) = self.heads.get_mut(place) else {
             return Ok(Way::Stuck);
         };
         head.round = head.round.saturating_add(1);
-        head.turn = turn;
+        head.is_fresh = true;
+        head.stamp = stamp;
         let known = state.known();
-        let thresholds = self.paths.thresholds();
         let joint = joint_atoms(
             self.alloc,
             thresholds,
@@ -110,8 +125,8 @@ impl Attempt<'_> {
     pub fn charge(&mut self, state: &State) -> bool {
         let edges = state.edges().len() as u64;
         let work = edges.saturating_mul(edges).saturating_mul(edges) / 64;
-        self.left = self.left.saturating_sub(work);
-        self.left > 0
+        self.spend(work);
+        self.walk_left > 0
     }
 
     /// Lands at a head.
@@ -119,11 +134,12 @@ impl Attempt<'_> {
         &mut self,
         cut: PointId,
         trail: &mut Trail<'_>,
+        fresh: &[usize],
     ) -> Result<Option<Landing>, NoMemory> {
         let Some(state) = trail.state() else {
             return Ok(None);
         };
-        let seen = look(self.alloc, self.task.sight, state, cut)?;
+        let seen = self.look_at(cut, state)?;
         if let Some(place) = self.head_like(cut, &seen, None) {
             return Ok(Some(self.land(place, state, &seen)?));
         }
@@ -131,7 +147,7 @@ impl Attempt<'_> {
             return Ok(Some(landing));
         }
         match trail.state() {
-            Some(state) => Ok(Some(self.land_new(cut, state, seen)?)),
+            Some(state) => Ok(Some(self.land_new(cut, state, seen, fresh)?)),
             None => Ok(None),
         }
     }
@@ -151,7 +167,7 @@ impl Attempt<'_> {
         if self.rung_at(cut).loses {
             return self.arrive_losing(cut, &mut trail, walked);
         }
-        let Some(landing) = self.land_any(cut, &mut trail)? else {
+        let Some(landing) = self.land_any(cut, &mut trail, walked.targets.as_slice())? else {
             return Ok(Way::Stuck);
         };
         jump(landing, &mut trail, walked)
@@ -160,7 +176,7 @@ impl Attempt<'_> {
     /// Ends the first branch, which has come to a cut.
     pub fn arrive(&mut self, cut: PointId, walked: &mut Walked) -> Result<Way, NoMemory> {
         if self.aim == Aim::Faults {
-            self.meet(cut)
+            self.meet(cut, walked)
         } else {
             self.fold_and_land(cut, walked)
         }
@@ -185,11 +201,12 @@ impl Attempt<'_> {
         cut: PointId,
         state: &State,
         seen: Seen,
+        fresh: &[usize],
     ) -> Result<Landing, NoMemory> {
         let images = Vec::from_slice(self.alloc, seen.images.as_slice())?;
         let edges = Vec::from_slice(self.alloc, seen.edges.as_slice())?;
         let head = self.heads.len();
-        let way = self.add_head(cut, state, seen)?;
+        let way = self.add_head(cut, state, seen, fresh)?;
         Ok(Landing {
             head,
             images,

@@ -3,6 +3,7 @@ ghost use Rattle.std.specs.Prelude.{All};
 ghost use Rattle.mc_base.specs.Ranges.Ends.{IsInt};
 
 use crate::walks::Attempt;
+use crate::walks::hashing::hash_of;
 use crate::walks::walked::Walked;
 use mc_base::{Atom, Items, NULL, NoMemory, NodeId, PointId, VarId};
 use mc_find_view::sight::{Seen, are_alike};
@@ -12,17 +13,20 @@ use mc_state::RawState;
 use mc_symbolic::State;
 use std::alloc::Global;
 
-/// A state of a cut: as documents write it, and as lines change it; how often it changed; the round of its cut in which it is
-/// walked from since it came or changed; what is known of the branches from it, where these are of the state as it is now; and
-/// whether it lost what arrivals lack.
+/// A state of a cut: as documents write it, and as lines change it; how often it changed; how many
+/// rounds it has had, whether it is new or has changed since the last one, and when that was; what is known of the branches from
+/// it, where these are of the state as it is now; and whether it lost what arrivals lack.
 #[derive(Drop)]
 pub struct Head {
     pub cut: PointId,
     pub raw: RawState,
     pub state: State,
     pub flags: Vec<(VarId, i64)>,
+    pub hash: u64,
     pub round: u64,
-    pub turn: u64,
+    pub turns: u64,
+    pub is_fresh: bool,
+    pub stamp: u64,
     pub walked: Walked,
     pub is_stale: bool,
     pub is_dropped: bool,
@@ -35,9 +39,10 @@ impl Head {
         !self.is_dropped && self.cut == cut
     }
 
-    /// Whether what was seen of a state at a cut has this head's shape.
-    pub fn has_shape(&self, cut: PointId, seen: &Seen) -> bool {
-        self.is_of(cut)
+    /// Whether what was seen of a state at a cut, with this hash, has this head's shape.
+    pub fn has_shape(&self, cut: PointId, seen: &Seen, hash: u64) -> bool {
+        self.hash == hash
+            && self.is_of(cut)
             && self.flags.as_slice() == seen.flags.as_slice()
             && are_alike(&self.raw, &seen.raw)
     }
@@ -121,28 +126,34 @@ pub fn joint_atoms(
 impl Attempt<'_> {
     /// The head with the shape of what was seen, other than one.
     pub fn head_like(&self, cut: PointId, seen: &Seen, except: Option<usize>) -> Option<usize> {
-        for (place, head) in self.heads.as_slice().iter().enumerate() {
-            if except != Some(place) && head.has_shape(cut, seen) {
-                return Some(place);
+        let hash = hash_of(&seen.raw);
+        for place in self.cuts.heads_of(cut) {
+            if let Some(head) = self.heads.as_slice().get(*place) {
+                if except != Some(*place) && head.has_shape(cut, seen, hash) {
+                    return Some(*place);
+                }
             }
         }
         None
     }
 
+    /// Adds a head.
+    pub fn push_head(&mut self, head: Head) -> Result<(), NoMemory> {
+        if let Some(cut) = self.cuts.find_mut(head.cut) {
+            cut.heads.push(self.heads.len())?;
+        }
+        self.heads.push(head)?;
+        Ok(())
+    }
+
     /// How many heads a cut has.
     pub fn heads_at(&self, cut: PointId) -> usize {
-        let mut count = 0usize;
-        for head in self.heads.as_slice() {
-            if head.is_of(cut) {
-                count = count.saturating_add(1);
-            }
-        }
-        count
+        self.cuts.heads_of(cut).len()
     }
 
     /// The head of what was seen of a state. None where that is no state.
     pub fn head_of(
-        &self,
+        &mut self,
         cut: PointId,
         state: &State,
         seen: Seen,
@@ -150,6 +161,7 @@ impl Attempt<'_> {
         let Some(atoms) = atoms_at(self.alloc, state.known(), seen.images.as_slice())? else {
             return Ok(None);
         };
+        let hash = hash_of(&seen.raw);
         let mut raw = seen.raw;
         raw.atoms = Items::of(atoms);
         let Some(made) = self.paths.state_of(&raw)? else {
@@ -160,8 +172,11 @@ impl Attempt<'_> {
             raw,
             state: made,
             flags: seen.flags,
+            hash,
             round: 1,
-            turn: self.next_round(cut),
+            turns: 0,
+            is_fresh: true,
+            stamp: self.next_stamp(),
             walked: Walked::new(self.alloc),
             is_stale: true,
             is_dropped: false,

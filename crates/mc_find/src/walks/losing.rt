@@ -9,7 +9,7 @@ use crate::walks::pairing::Pairing;
 use crate::walks::walked::Walked;
 use crate::walks::walking::Way;
 use mc_base::{EdgeId, Items, NULL, NoMemory, NodeId, PointId};
-use mc_find_view::sight::{Seen, look};
+use mc_find_view::sight::Seen;
 use mc_symbolic::State;
 use std::alloc::Global;
 
@@ -138,6 +138,7 @@ impl Attempt<'_> {
             return Ok(Way::Stuck);
         };
         next.round = head.round.saturating_add(1);
+        next.turns = head.turns;
         next.is_weak = true;
         next.walked.add_targets(&head.walked)?;
         *head = next;
@@ -159,9 +160,7 @@ impl Attempt<'_> {
         if let Some(head) = self.heads.get_mut(other) {
             head.is_weak = true;
         }
-        if let Some(head) = self.heads.get_mut(place) {
-            head.is_dropped = true;
-        }
+        self.forget_head(place);
         Ok(Way::Again)
     }
 
@@ -178,7 +177,7 @@ impl Attempt<'_> {
             return Ok(Way::Stuck);
         }
         self.follow_again(place);
-        let own = look(self.alloc, self.task.sight, &part, cut)?;
+        let own = self.look_at(cut, &part)?;
         match self.head_like(cut, &own, Some(place)) {
             Some(other) => self.give_up(place, other, &part, &own),
             None => self.weaken(place, cut, &part, own),
@@ -221,14 +220,14 @@ impl Attempt<'_> {
         let Some(state) = trail.state() else {
             return Ok(Way::Stuck);
         };
-        let seen = look(self.alloc, self.task.sight, state, cut)?;
+        let seen = self.look_at(cut, state)?;
         let landing = match self.landing(cut, state, &seen, walked.targets.as_slice())? {
             Some(found) => found,
             None => {
                 if self.heads_at(cut) >= self.style.heads {
                     return self.lose(cut, state, &seen);
                 }
-                self.land_new(cut, state, seen)?
+                self.land_new(cut, state, seen, walked.targets.as_slice())?
             }
         };
         jump(landing, trail, walked)

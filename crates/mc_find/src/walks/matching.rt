@@ -4,7 +4,10 @@ use crate::walks::Attempt;
 use crate::walks::arriving::Landing;
 use crate::walks::walking::Way;
 use mc_base::{NoMemory, PointId};
-use mc_find_view::sight::{Seen, look};
+use mc_find_view::sight::Seen;
+
+/// So many steps it counts to try whether a state fits a head.
+const FIT: u64 = 4;
 
 impl<'a> Attempt<'a> {
     /// Lets a state fit a head, by folds that are added to the trail. None where it does not.
@@ -16,6 +19,7 @@ impl<'a> Attempt<'a> {
         trail: &mut Trail<'_>,
     ) -> Result<Option<Landing>, NoMemory> {
         let manner = self.manner(cut);
+        self.spend(FIT);
         let Some(head) = self.heads.as_slice().get(place) else {
             return Ok(None);
         };
@@ -89,7 +93,7 @@ impl<'a> Attempt<'a> {
         }
     }
 
-    /// Lets the newest head of a cut take the others that fit it. Where it takes one, all is followed again.
+    /// Lets the newest head of a cut take the others that fit it. What jumped to one that it takes is followed again.
     pub fn absorb(&mut self, cut: PointId) -> Result<Way, NoMemory> {
         let Some(newest) = self.heads.len().checked_sub(1) else {
             return Ok(Way::On);
@@ -128,7 +132,7 @@ impl<'a> Attempt<'a> {
         let Some(state) = trail.state() else {
             return Ok(Way::On);
         };
-        let seen = look(self.alloc, self.task.sight, state, cut)?;
+        let seen = self.look_at(cut, state)?;
         if !self.may_fit(newest, cut, &seen) {
             return Ok(Way::On);
         }
@@ -137,19 +141,8 @@ impl<'a> Attempt<'a> {
             return Ok(Way::On);
         };
         if landing.way == Way::On {
-            self.drop_head(place);
+            self.forget_head(place);
         }
         Ok(landing.way)
-    }
-
-    /// Drops a head, and has all followed again.
-    fn drop_head(&mut self, place: usize) {
-        if let Some(head) = self.heads.get_mut(place) {
-            head.is_dropped = true;
-        }
-        self.is_entry_stale = true;
-        for head in self.heads.as_mut_slice() {
-            head.is_stale = true;
-        }
     }
 }

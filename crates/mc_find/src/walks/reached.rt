@@ -1,60 +1,94 @@
 // Heads to which branches come.
-use crate::walks::Attempt;
+use crate::walks::heads::Head;
+use crate::walks::walked::Walked;
+use crate::walks::{Aim, Attempt};
 use mc_base::{NoMemory, PointId};
 
-/// Marks the places of a list; whether one was not marked.
-fn mark(marks: &mut Vec<bool>, places: &[usize]) -> bool {
-    let mut changed = false;
-    for place in places {
-        if let Some(slot) = marks.get_mut(*place) {
-            if !*slot {
-                *slot = true;
-                changed = true;
+/// Heads that are reached: marks of all that were met, and those whose targets are not marked yet.
+#[derive(Drop)]
+struct Reaching {
+    marks: Vec<bool>,
+    open: Vec<usize>,
+}
+
+impl Reaching {
+    /// Marks the places of a list.
+    fn mark(&mut self, places: &[usize]) -> Result<(), NoMemory> {
+        for place in places {
+            if let Some(slot) = self.marks.get_mut(*place) {
+                if !*slot {
+                    *slot = true;
+                    self.open.push(*place)?;
+                }
             }
         }
+        Ok(())
     }
-    changed
+}
+
+/// Whether one comes before another: a cut's component and a stamp.
+fn is_before(one: (PointId, u64), other: (PointId, u64)) -> bool {
+    one.0.0 < other.0.0 || (one.0 == other.0 && one.1 < other.1)
 }
 
 impl Attempt<'_> {
-    /// Marks the heads to which branches jump from marked ones; whether one was not marked.
-    fn mark_next(&self, marks: &mut Vec<bool>) -> bool {
-        let mut changed = false;
-        for (place, head) in self.heads.as_slice().iter().enumerate() {
-            if marks.as_slice().get(place).copied().unwrap_or(false)
-                && mark(marks, head.walked.targets.as_slice())
-            {
-                changed = true;
-            }
-        }
-        changed
-    }
-
     /// For each head whether branches come to it from the entry, or from these heads.
     fn reached(&self, fresh: &[usize]) -> Result<Vec<bool>, NoMemory> {
-        let mut marks = vec![in self.alloc; false; self.heads.len()]?;
-        mark(&mut marks, self.entry.targets.as_slice());
-        mark(&mut marks, fresh);
+        let mut reaching = Reaching {
+            marks: vec![in self.alloc; false; self.heads.len()]?,
+            open: Vec::new(self.alloc),
+        };
+        reaching.mark(self.entry.targets.as_slice())?;
+        reaching.mark(fresh)?;
         for _ in 0..self.heads.len() {
-            if !self.mark_next(&mut marks) {
+            let Some(place) = reaching.open.pop() else {
                 break;
+            };
+            if let Some(head) = self.heads.as_slice().get(place) {
+                if !head.is_dropped {
+                    reaching.mark(head.walked.targets.as_slice())?;
+                }
             }
         }
-        Ok(marks)
+        Ok(reaching.marks)
     }
 
-    /// The first head that is reached and from which branches have to be followed.
+    /// The order in which a head is walked from: what comes first in the program, then what came first.
+    fn turn_of(&self, head: &Head) -> (PointId, u64) {
+        if self.aim == Aim::Faults {
+            return (PointId(0), head.stamp);
+        }
+        let component = self.cuts.component(self.task.graph, head.cut);
+        (component, head.stamp)
+    }
+
+    /// The head that is reached and from which branches have to be followed next.
     pub fn next_reached(&self) -> Result<Option<usize>, NoMemory> {
         let marks = self.reached(&[])?;
-        for (place, head) in self.heads.as_slice().iter().enumerate() {
-            if head.is_stale
-                && !head.is_dropped
-                && marks.as_slice().get(place).copied().unwrap_or(false)
-            {
-                return Ok(Some(place));
+        let mut best: Option<(usize, (PointId, u64))> = None;
+        for (place, is_reached) in marks.as_slice().iter().enumerate() {
+            if !*is_reached {
+                continue;
+            }
+            let Some(head) = self.heads.as_slice().get(place) else {
+                continue;
+            };
+            if !head.is_stale || head.is_dropped {
+                continue;
+            }
+            let turn = self.turn_of(head);
+            let is_best = match best {
+                Some(found) => is_before(turn, found.1),
+                None => true,
+            };
+            if is_best {
+                best = Some((place, turn));
             }
         }
-        Ok(None)
+        match best {
+            Some(found) => Ok(Some(found.0)),
+            None => Ok(None),
+        }
     }
 
     /// Has what jumps to a head followed again.
@@ -70,23 +104,47 @@ impl Attempt<'_> {
     }
 
     /// Drops a head, and has what jumps to it followed again.
-    fn forget_head(&mut self, place: usize) {
+    pub fn forget_head(&mut self, place: usize) {
+        let none = Walked::new(self.alloc);
         if let Some(head) = self.heads.get_mut(place) {
             head.is_dropped = true;
+            head.walked = none;
+            if let Some(cut) = self.cuts.find_mut(head.cut) {
+                cut.forget(place);
+            }
         }
         self.follow_again(place);
+    }
+
+    /// The places of the heads of a cut, copied.
+    fn places_at(&self, cut: PointId) -> Result<Vec<usize>, NoMemory> {
+        Vec::from_slice(self.alloc, self.cuts.heads_of(cut))
+    }
+
+    /// Drops the heads of a cut.
+    pub fn drop_heads_of(&mut self, cut: PointId) -> Result<(), NoMemory> {
+        for place in self.places_at(cut)?.as_slice() {
+            self.forget_head(*place);
+        }
+        Ok(())
+    }
+
+    /// Drops the heads of cuts at marked points.
+    pub fn drop_heads_at(&mut self, marks: &[bool]) -> Result<(), NoMemory> {
+        for cut in self.cuts.points(self.alloc)?.as_slice() {
+            if marks.get(cut.0 as usize).copied().unwrap_or(false) {
+                self.drop_heads_of(*cut)?;
+            }
+        }
+        Ok(())
     }
 
     /// Drops the heads of a cut that are not reached from the entry, or from these heads.
     pub fn drop_unreached(&mut self, cut: PointId, fresh: &[usize]) -> Result<(), NoMemory> {
         let marks = self.reached(fresh)?;
-        for (place, is_reached) in marks.as_slice().iter().enumerate() {
-            let is_own = match self.heads.as_slice().get(place) {
-                Some(head) => head.is_of(cut),
-                None => false,
-            };
-            if is_own && !*is_reached {
-                self.forget_head(place);
+        for place in self.places_at(cut)?.as_slice() {
+            if !marks.as_slice().get(*place).copied().unwrap_or(false) {
+                self.forget_head(*place);
             }
         }
         Ok(())

@@ -24,12 +24,14 @@ pub struct Blocked {
     pub lack: Lack,
 }
 
-/// The branches from a root: their lines, where they are blocked, and the heads to which they jump.
+/// The branches from a root: their lines, where they are blocked, the heads to which they jump, and the points that do nothing
+/// which they passed.
 #[derive(Drop)]
 pub struct Walked {
     pub lines: Vec<Line>,
     pub blocked: Vec<Blocked>,
     pub targets: Vec<usize>,
+    pub skips: Vec<PointId>,
 }
 
 impl Walked {
@@ -39,13 +41,16 @@ impl Walked {
             lines: Vec::new(alloc),
             blocked: Vec::new(alloc),
             targets: Vec::new(alloc),
+            skips: Vec::new(alloc),
         }
     }
 
     /// Adds a jump to a head.
     pub fn jump(&mut self, head: usize, line: Line) -> Result<(), NoMemory> {
         self.lines.push(line)?;
-        self.targets.push(head)?;
+        if !self.targets.as_slice().contains(&head) {
+            self.targets.push(head)?;
+        }
         Ok(())
     }
 

@@ -1,10 +1,11 @@
 // Walks from one root.
-use crate::walks::walked::{Walked, blocked_at};
+use crate::walks::walked::{Blocked, Walked, blocked_at};
 use crate::walks::{Aim, Attempt};
 use mc_base::{NoMemory, PointId};
 use mc_find_paths::next::false_or_null;
 use mc_lines::cert::Line;
 use mc_rules_steps::Gap;
+use mc_state::InstrRule;
 
 /// How a walk goes on.
 #[derive(Clone, Copy, Debug, PartialEq, Eq)]
@@ -17,7 +18,9 @@ pub enum Way {
     Stuck,
     /// A cut would have too many heads.
     Crowded(PointId),
-    /// There are too many lines.
+    /// This point becomes a cut: branches pass it too often.
+    Passed(PointId),
+    /// There are too many steps.
     TooLong,
 }
 
@@ -50,29 +53,52 @@ impl Attempt<'_> {
         if branch.goal.is_some() {
             return Ok(Act::EndSide);
         }
-        if branch.moved && self.task.cuts.contains(&branch.point) {
+        if branch.moved && self.cuts.has(branch.point) {
             return Ok(Act::Arrive(branch.point));
         }
         self.next_by_code(branch)
     }
 
+    /// The point of the first branch, if a line passes it that does nothing.
+    fn skipped(&self, line: &Line) -> Option<PointId> {
+        match line {
+            Line::Step(InstrRule::S1) => self.paths.top().map(|branch| branch.point),
+            _ => None,
+        }
+    }
+
     /// Applies a line at the first branch.
-    fn apply(&mut self, lines: &mut Vec<Line>, line: Line) -> Result<Way, NoMemory> {
+    fn apply(&mut self, walked: &mut Walked, line: Line) -> Result<Way, NoMemory> {
+        let skipped = self.skipped(&line);
         if !self.paths.apply(&line)? {
             return Ok(Way::Stuck);
         }
-        lines.push(line)?;
-        Ok(Way::On)
+        walked.lines.push(line)?;
+        match skipped {
+            Some(point) => self.pass(walked, point),
+            None => Ok(Way::On),
+        }
     }
 
-    /// Ends the first branch as blocked at a point by a gap, unless a certificate is made.
-    fn block(&mut self, walked: &mut Walked, point: PointId, gap: Gap) -> Result<Way, NoMemory> {
+    /// Whether a branch that lacks this waits for another plan of the cut from which it comes.
+    fn waits(&self, blocked: Blocked) -> bool {
         if self.aim == Aim::Certificate {
-            return Ok(Way::Stuck);
+            return true;
         }
+        match self.root {
+            Some(cut) => self.may_blame(cut) && !self.faults.as_slice().contains(&blocked),
+            None => false,
+        }
+    }
+
+    /// Ends the first branch as blocked at a point by a gap, unless a certificate is made, or another plan may help.
+    fn block(&mut self, walked: &mut Walked, point: PointId, gap: Gap) -> Result<Way, NoMemory> {
         let Some(blocked) = blocked_at(self.task.sight.flow, point, gap) else {
             return Ok(Way::Stuck);
         };
+        if self.waits(blocked) {
+            return Ok(Way::Stuck);
+        }
         let _ended = self.paths.pop();
         walked.block(blocked)?;
         Ok(Way::On)
@@ -81,7 +107,7 @@ impl Attempt<'_> {
     /// Goes one step along the first branch.
     fn step(&mut self, walked: &mut Walked, act: Act) -> Result<Way, NoMemory> {
         match act {
-            Act::Apply(line) => self.apply(&mut walked.lines, line),
+            Act::Apply(line) => self.apply(walked, line),
             Act::EndSide => self.end_side(&mut walked.lines),
             Act::Arrive(cut) => self.arrive(cut, walked),
             Act::Block(point, gap) => self.block(walked, point, gap),
@@ -90,15 +116,21 @@ impl Attempt<'_> {
         }
     }
 
+    /// Counts steps, in all and in this walk.
+    pub fn spend(&mut self, steps: u64) {
+        self.left = self.left.saturating_sub(steps);
+        self.walk_left = self.walk_left.saturating_sub(steps);
+    }
+
     /// Counts the lines of a step; at least one.
     fn count(&mut self, lines: usize) {
-        self.left = self.left.saturating_sub((lines as u64).max(1));
+        self.spend((lines as u64).max(1));
     }
 
     /// Follows all open branches, and adds what comes of them.
     pub fn walk(&mut self, walked: &mut Walked) -> Result<Way, NoMemory> {
-        for _ in 0..self.limits.lines {
-            if self.left == 0 {
+        for _ in 0..self.walk_left {
+            if self.walk_left == 0 {
                 return Ok(Way::TooLong);
             }
             let act = self.next_act()?;

@@ -56,6 +56,7 @@ struct Viewing<'a> {
     sight: Sight<'a>,
     state: &'a State,
     point: PointId,
+    vars: Vec<Option<NodeId>>,
     met: Vec<Met>,
     kinds: Vec<NodeKind>,
     images: Vec<NodeId>,
@@ -111,22 +112,59 @@ impl Viewing<'_> {
         }
     }
 
-    /// The numbers of the variables that count.
-    fn variables(&mut self) -> Result<Items<Option<NodeId>>, NoMemory> {
-        let count = self.state.env().len();
-        let mut vars = Vec::with_capacity(self.alloc, count)?;
-        for place in 0..count {
+    /// Numbers the variables that count.
+    fn number_variables(&mut self) -> Result<(), NoMemory> {
+        for place in 0..self.state.env().len() {
             let x = VarId(place as u64);
             let kind = self.sight.var_kind(x);
             match self.sight.live_node(self.state, self.point, x) {
                 Some(node) => {
                     let number = self.number(kind, node)?;
-                    vars.push(Some(number))?;
+                    self.vars.push(Some(number))?;
                 }
-                None => vars.push(None)?,
+                None => self.vars.push(None)?,
             }
         }
-        Ok(Items::of(vars))
+        Ok(())
+    }
+
+    /// Whether an edge that was not taken starts at a node.
+    fn has_edge_at(&self, node: NodeId) -> bool {
+        for (place, entry) in self.state.edges().iter().enumerate() {
+            if !self.is_used(place) && self.state.are_equal(entry.1.start(), node) {
+                return true;
+            }
+        }
+        false
+    }
+
+    /// The pointer of a variable that does not count otherwise, where an edge hangs on it that was not taken.
+    fn holder(&self, x: VarId) -> Option<NodeId> {
+        if self.sight.var_kind(x) != Kind::Ptr || self.sight.is_live(self.point, x) {
+            return None;
+        }
+        let node = self.state.var(x)?;
+        if self.state.are_equal(node, NULL) || !self.has_edge_at(node) {
+            return None;
+        }
+        Some(node)
+    }
+
+    /// Numbers the variables that are read no more, but on which edges hang that no other variable before leads to. The place
+    /// after in the list of nodes that were met.
+    fn number_holders(&mut self, from: usize) -> Result<usize, NoMemory> {
+        let mut next = from;
+        for place in 0..self.state.env().len() {
+            let Some(node) = self.holder(VarId(place as u64)) else {
+                continue;
+            };
+            let number = self.pointer(node)?;
+            if let Some(slot) = self.vars.get_mut(place) {
+                *slot = Some(number);
+            }
+            next = self.follow(next)?;
+        }
+        Ok(next)
     }
 
     /// The numbers of the fields of a block; None for one that is not known or does not count.
@@ -288,6 +326,9 @@ impl Viewing<'_> {
     /// Takes all edges that count.
     fn take_all(&mut self) -> Result<(), NoMemory> {
         let mut next = self.follow(0)?;
+        if self.sight.all {
+            next = self.number_holders(next)?;
+        }
         for _ in 0..self.state.edges().len() {
             let Some(place) = self.left_over() else {
                 return Ok(());
@@ -309,10 +350,10 @@ impl Viewing<'_> {
     }
 
     /// What was seen.
-    fn seen(self, vars: Items<Option<NodeId>>, flags: Vec<(VarId, i64)>, whole: bool) -> Seen {
+    fn seen(self, flags: Vec<(VarId, i64)>, whole: bool) -> Seen {
         Seen {
             raw: RawState {
-                vars,
+                vars: Items::of(self.vars),
                 kinds: Items::of(self.kinds),
                 edges: Items::of(self.edges),
                 atoms: Items::new(self.alloc),
@@ -343,7 +384,8 @@ impl Viewing<'_> {
     }
 }
 
-/// Looks at a state, which must not be false, from the variables that count at a point.
+/// Looks at a state, which must not be false, from the variables that count at a point. Where all edges count, variables that
+/// are read no more count too, as far as edges hang on them that no other one leads to.
 pub fn look(
     alloc: Global,
     sight: Sight<'_>,
@@ -355,6 +397,7 @@ pub fn look(
         sight,
         state,
         point,
+        vars: Vec::with_capacity(alloc, state.env().len())?,
         met: Vec::new(alloc),
         kinds: vec![in alloc; NodeKind::Zero]?,
         images: vec![in alloc; NULL]?,
@@ -362,9 +405,9 @@ pub fn look(
         ids: Vec::new(alloc),
         used: vec![in alloc; false; state.edges().len()]?,
     };
-    let vars = look.variables()?;
+    look.number_variables()?;
     look.take_all()?;
     let whole = sight.all && state.is_whole() && look.has_all();
     let flags = look.flags()?;
-    Ok(look.seen(vars, flags, whole))
+    Ok(look.seen(flags, whole))
 }

@@ -5,7 +5,8 @@ use mc_flow::Flow;
 use mc_flow::defs::Defs;
 use mc_symbolic::State;
 
-/// What a look at a state goes by: the program, what it still needs, and whether all edges and variables count.
+/// What a look at a state goes by: the program, what it still needs, and whether all edges count, since it is asked later that
+/// nothing is allocated.
 #[derive(Clone, Copy)]
 pub struct Sight<'a> {
     pub flow: &'a Flow,
@@ -19,7 +20,7 @@ pub struct Sight<'a> {
 impl Sight<'_> {
     /// Whether a variable counts at a point.
     pub fn is_live(&self, point: PointId, x: VarId) -> bool {
-        self.all || self.live.has(point.0 as usize, x.0 as usize)
+        self.live.has(point.0 as usize, x.0 as usize)
     }
 
     /// The node of a variable that counts at a point, where it is known.
