@@ -12,11 +12,13 @@ ghost use Rattle.mc_app.specs.Answers.{IsWhyWords, sources_of};
 ghost use Rattle.mc_app.specs.Checks.{IsSafeUnit, IsSafeWhereTold};
 
 use crate::Answer;
+use crate::tried::tried;
 use crate::words::Analyse;
 use mc_c_check::Bound;
 use mc_c_grammar::places::ascending_places_differ;
 use mc_exact::{closed_alarms_are_marked, marks_are_exact};
-use mc_find::analysis::{Analysis, analyse};
+use mc_find::analysis::{Analysis, Findings, analyse};
+use mc_flow::Flow;
 use mc_kernel::{certificates_are_safe, last_pass_finds_faults};
 use mc_load::inputs::{Sources, read};
 use mc_load::lowered::graph;
@@ -33,6 +35,23 @@ pub enum Analysed {
     /// The flow graph of the program has more than 10,000 points.
     TooLong,
     Found(Analysis),
+    /// Alarms, so many; and their report with scripts that were found by running.
+    Tried(Findings, u64, Vec<u8>),
+}
+
+// Tries runs for the alarms that are found.
+fn with_scripts(alloc: Global, bound: &Bound, flow: &Flow, found: Analysis, runs: u64) -> Result<Analysed, AllocError> {
+    match found {
+        Analysis::Alarms(findings, count) => {
+            match tried(alloc, bound, flow, findings.report.as_slice(), runs)? {
+                Some(text) => Ok(Analysed::Tried(findings, count, text)),
+                None => Ok(Analysed::Found(Analysis::Alarms(findings, count))),
+            }
+        }
+        Analysis::Safe(findings) => Ok(Analysed::Found(Analysis::Safe(findings))),
+        Analysis::Paths(document) => Ok(Analysed::Found(Analysis::Paths(document))),
+        Analysis::Unknown => Ok(Analysed::Found(Analysis::Unknown)),
+    }
 }
 
 // Analyses a program with its definitions.
@@ -66,7 +85,7 @@ fn analyse_bound(alloc: Global, names: Analyse<'_>, bound: &Bound) -> Result<Ana
                 names.disjuncts as usize,
                 names.rounds,
             )?;
-            Ok(Analysed::Found(found))
+            with_scripts(alloc, bound, &lowered.flow, found, 20_000)
         }
         Err(_) => Ok(Analysed::TooLong),
     }
