@@ -1,5 +1,5 @@
 -- What a call's status means where its words give a command.
-use Rattle.std.specs.Prelude.{◌≡◌, ◌<◌, ◌⊎◌, ℕ, List, Option, Some, Ok, length, map}
+use Rattle.std.specs.Prelude.{◌≡◌, ◌<◌, ◌⊎◌, ℕ, false, List, Option, Some, Ok, length, map}
 use Rattle.mc_c_syntax.specs.Ast.Trees.{UnitTree}
 use Rattle.mc_document.specs.Judge.Verdicts.{IsChain}
 use Rattle.mc_exact.specs.Marks.{Alarm as MarkedAlarm}
@@ -28,6 +28,7 @@ use Rattle.mc_app.specs.Blocked.{FaultsComeBy}
 use Rattle.mc_app.specs.Checks.{IsSafeUnit, IsWhyChecked}
 use Rattle.mc_app.specs.Real.{AreReal, IsClosedUnit}
 use Rattle.mc_app.specs.Runs.{IsWhyRan}
+use Rattle.mc_app.specs.Tried.{IsShown}
 use Rattle.mc_app.specs.Words.Words.{Asks}
 
 -- ---- alarms
@@ -39,7 +40,7 @@ pub record TellsFaults (start : List ℕ) (unit : UnitTree) (defs : List Def) (s
   pub finds : FaultsComeBy start unit defs flow stuck
 
 -- these are the blocked branches of the document that a check was given, or those whose report an analysis has printed: of them,
--- those with answers of malloc are real
+-- those with answers of malloc are real, and where the line of a script is printed behind an alarm's, the program faults there on it
 abbrev pub AlarmsMean : Holds → (old new : Option (List ℕ)) → UnitTree → List Def → Request → Type 0
 AlarmsMean holds old new unit defs (request.Check c) =
     WhereTold (holds c.document.now)
@@ -47,9 +48,9 @@ AlarmsMean holds old new unit defs (request.Check c) =
 AlarmsMean holds old new unit defs (request.Run r) = Unit {0}
 AlarmsMean holds old new unit defs (request.Demo n) = Unit {0}
 AlarmsMean holds old new unit defs (request.Analyse a) =
-    (flow : Flow) × (heads : List WrittenHead) × (alarms : List MarkedAlarm) × (report : List ℕ)
-    × IsChainReport flow defs heads alarms report × AddsIfTold old report new (Ok tt)
-    × TellsFaults a.start.now unit defs (map (λ x. x.0) alarms) flow × AreReal a.start.now unit defs flow alarms
+    (flow : Flow) × (heads : List WrittenHead) × (alarms : List MarkedAlarm) × (report : List ℕ) × (text : List ℕ)
+    × IsChainReport flow defs heads alarms report × IsShown a.start.now unit defs report text × AddsIfTold old text new (Ok tt)
+    × TellsFaults a.start.now unit defs (map (λ x. x.0) alarms) flow × AreReal a.start.now unit defs flow a.merge alarms
 
 -- the words ask for a check or an analysis, and where it is known what the files of its program and definitions hold, they are a
 -- program and its definitions, of whose faults the alarms tell
@@ -107,8 +108,9 @@ Decides start unit defs Words = ⊥
 Decides start unit defs Definitions = ⊥
 Decides start unit defs Document = ⊥
 
--- an analysis of a closed program, which is read and fits its definitions, decides it
+-- an analysis of a closed program, which is read and fits its definitions, decides it, unless it merges states: then an alarm need
+-- not be real
 abbrev pub IsDecided : Holds → List (List ℕ) → Status → Type 0
 IsDecided holds words status =
     (a : Analyse) (unit : UnitTree) (defs : List Def) → IsReady holds words (request.Analyse a) unit defs
-    → IsClosedUnit a.start.now unit defs → Decides a.start.now unit defs status
+    → a.merge ≡ false → IsClosedUnit a.start.now unit defs → Decides a.start.now unit defs status

@@ -1,6 +1,5 @@
 // Analyses a program.
 ghost use Rattle.std.specs.Prelude.{◌≡◌, List, IfOk, ℕ};
-ghost use Rattle.mc_find.specs.declared.analysis.analysis.Findings.{Findings};
 ghost use Rattle.mc_find.specs.declared.analysis.analysis.Analysis.TheVariants.{Safe};
 ghost use Rattle.mc_c_syntax.specs.Ast.Views.{unit_of};
 ghost use Rattle.mc_load.specs.Inputs.Texts.{IsWellFormed};
@@ -12,13 +11,12 @@ ghost use Rattle.mc_app.specs.Answers.{IsWhyWords, sources_of};
 ghost use Rattle.mc_app.specs.Checks.{IsSafeUnit, IsSafeWhereTold};
 
 use crate::Answer;
-use crate::tried::tried;
+use crate::tried::with_scripts;
 use crate::words::Analyse;
 use mc_c_check::Bound;
 use mc_c_grammar::places::ascending_places_differ;
 use mc_exact::{closed_alarms_are_marked, marks_are_exact};
-use mc_find::analysis::{Analysis, Findings, analyse};
-use mc_flow::Flow;
+use mc_find::analysis::{Analysis, Findings, Settings, analyse};
 use mc_kernel::{certificates_are_safe, last_pass_finds_faults};
 use mc_load::inputs::{Sources, read};
 use mc_load::lowered::graph;
@@ -35,22 +33,18 @@ pub enum Analysed {
     /// The flow graph of the program has more than 10,000 points.
     TooLong,
     Found(Analysis),
-    /// Alarms, so many; and their report with scripts that were found by running.
+    /// Alarms, so many, and their report with scripts that were found by running.
     Tried(Findings, u64, Vec<u8>),
 }
 
-// Tries runs for the alarms that are found.
-fn with_scripts(alloc: Global, bound: &Bound, flow: &Flow, found: Analysis, runs: u64) -> Result<Analysed, AllocError> {
-    match found {
-        Analysis::Alarms(findings, count) => {
-            match tried(alloc, bound, flow, findings.report.as_slice(), runs)? {
-                Some(text) => Ok(Analysed::Tried(findings, count, text)),
-                None => Ok(Analysed::Found(Analysis::Alarms(findings, count))),
-            }
-        }
-        Analysis::Safe(findings) => Ok(Analysed::Found(Analysis::Safe(findings))),
-        Analysis::Paths(document) => Ok(Analysed::Found(Analysis::Paths(document))),
-        Analysis::Unknown => Ok(Analysed::Found(Analysis::Unknown)),
+// How the words want a flow graph to be analysed.
+fn settings(names: Analyse<'_>) -> Settings
+    ensures { result.merge ≡ names.merge }
+{
+    Settings {
+        states: names.disjuncts as usize,
+        rounds: names.rounds,
+        merge: names.merge,
     }
 }
 
@@ -78,17 +72,27 @@ fn analyse_bound(alloc: Global, names: Analyse<'_>, bound: &Bound) -> Result<Ana
     let defs = bound.defs();
     match graph(alloc, bound)? {
         Ok(lowered) => {
-            let found = analyse(
-                alloc,
-                &lowered.flow,
-                defs,
-                names.disjuncts as usize,
-                names.rounds,
-            )?;
-            with_scripts(alloc, bound, &lowered.flow, found, 20_000)
+            let found = analyse(alloc, &lowered.flow, defs, settings(names))?;
+            Ok(Analysed::Found(found))
         }
         Err(_) => Ok(Analysed::TooLong),
     }
+}
+
+// Analyses a program with its definitions, and tries runs for its alarms.
+fn analyse_and_try(
+    alloc: Global,
+    names: Analyse<'_>,
+    bound: &Bound,
+) -> Result<Analysed, AllocError>
+    requires well_formed { IsWellFormed names.start.now (unit_of bound.now.typed.unit) }
+    requires start { bound.now.typed.entry ≡ names.start.now }
+    ensures why { IfOk result (λ found. IsWhyAnalysed names.entry (unit_of bound.now.typed.unit) bound.now.defs found) }
+    ensures safe { IfOk result (λ found. (f : Findings) → found ≡ Analysed.Found (Safe f)
+        → IsSafeUnit names.entry.start.now (unit_of bound.now.typed.unit) bound.now.defs) }
+{
+    let found = analyse_bound(alloc, names, bound)?;
+    with_scripts(alloc, names, bound, found)
 }
 
 /// Reads the program and the definitions that a command names, and analyses the program.
@@ -111,7 +115,7 @@ pub fn answer_analysis<F: Files>(
     match read(alloc, files, sources)? {
         Err(refusal) => Ok(Answer::Refused(refusal)),
         Ok(bound) => {
-            let found = analyse_bound(alloc, names, &bound)?;
+            let found = analyse_and_try(alloc, names, &bound)?;
             Ok(Answer::Analysed(found))
         }
     }

@@ -1,17 +1,21 @@
 // Alarms for which runs are tried, and the lines of the scripts that are found.
-ghost use Rattle.std.specs.Prelude.{◌≡◌, ◌++◌, ◌×◌, true, IfOk, IfSome, List, OnOk, ℕ};
+ghost use Rattle.std.specs.Prelude.{◌≡◌, ◌++◌, true, IfOk, IfSome, List, OnOk, ℕ};
 ghost use Rattle.std.specs.List.{AllByRecursion};
 ghost use Rattle.mc_c_syntax.specs.Ast.Trees.{UnitTree};
 ghost use Rattle.mc_c_syntax.specs.Ast.Views.{unit_of};
 ghost use Rattle.mc_flow.specs.declared.defs.rules.Def.{Def};
 ghost use Rattle.mc_lines.specs.Cert.Lines.{lines_of};
 ghost use Rattle.mc_tries.specs.Found.{IsFound};
+ghost use Rattle.mc_find.specs.declared.analysis.analysis.Analysis.TheVariants.{Alarms, Safe};
+ghost use Rattle.mc_app.specs.Analyses.{IsWhyAnalysed};
 ghost use Rattle.mc_app.specs.Tried.{AreShown, IsAlarmAt, IsBehind, blank_for, parted, script_line};
 
+use crate::analysing::Analysed;
+use crate::words::Analyse;
 use mc_base::NoMemory;
 use mc_base::text::{Place, print_place};
 use mc_c_check::Bound;
-use mc_flow::Flow;
+use mc_find::analysis::{Analysis, Findings};
 use mc_lines::cert::first_line;
 use mc_tries::{Found, scripts};
 use std::alloc::Global;
@@ -66,11 +70,13 @@ fn blank_for(byte: u8) -> u8
 }
 
 // Adds the lines of a script, parted by blanks.
+#[tactic(auto, using(crate::proofs::Shown::parted_of))]
 fn push_parted(out: &mut Vec<u8>, script: &[u8]) -> Result<(), NoMemory>
     ensures { OnOk result (out.new.items ≡ out.old.items ++ parted script.now) }
 {
     if script.is_empty() {
         out.push(b'-')?;
+        return Ok(());
     }
     for byte in script {
         out.push(blank_for(*byte))?;
@@ -137,11 +143,10 @@ fn shown(alloc: Global, report: &[u8], found: &[Found]) -> Result<Vec<u8>, NoMem
     Ok(text)
 }
 
-/// A report with scripts for alarms that carry none, where some are found in so many runs.
-pub fn tried(
+// The report of a program with scripts for alarms that carry none, where some are found in so many runs.
+fn report_with_scripts(
     alloc: Global,
     bound: &Bound,
-    flow: &Flow,
     report: &[u8],
     runs: u64,
 ) -> Result<Option<Vec<u8>>, NoMemory>
@@ -149,11 +154,55 @@ pub fn tried(
         (lines_of report.now) text.items)) }
 {
     let places = unmarked(alloc, report)?;
-    let constants = flow.thresholds.as_slice();
-    let found = scripts(alloc, bound, constants, places.as_slice(), runs)?;
+    let found = scripts(alloc, bound, places.as_slice(), runs)?;
     if found.is_empty() {
         return Ok(None);
     }
     let text = shown(alloc, report, found.as_slice())?;
     Ok(Some(text))
+}
+
+// Alarms, so many, with scripts for those that carry none.
+fn alarms_with_scripts(
+    alloc: Global,
+    names: Analyse<'_>,
+    bound: &Bound,
+    findings: Findings,
+    count: u64,
+) -> Result<Analysed, NoMemory>
+    requires { bound.now.typed.entry ≡ names.start.now }
+    ensures why { IfOk result (λ a. IsWhyAnalysed names.entry (unit_of bound.now.typed.unit) bound.now.defs (Analysed.Found (Alarms findings.entry count))
+        → IsWhyAnalysed names.entry (unit_of bound.now.typed.unit) bound.now.defs a) }
+    ensures safe { IfOk result (λ a. (f : Findings) → a ≡ Analysed.Found (Safe f) → ⊥) }
+{
+    match report_with_scripts(alloc, bound, findings.report.as_slice(), names.runs)? {
+        Some(text) => Ok(Analysed::Tried(findings, count, text)),
+        None => Ok(Analysed::Found(Analysis::Alarms(findings, count))),
+    }
+}
+
+/// What the analysis of a program comes to, with scripts for the alarms that carry none.
+pub fn with_scripts(
+    alloc: Global,
+    names: Analyse<'_>,
+    bound: &Bound,
+    found: Analysed,
+) -> Result<Analysed, NoMemory>
+    requires { bound.now.typed.entry ≡ names.start.now }
+    ensures why { IfOk result (λ a. IsWhyAnalysed names.entry (unit_of bound.now.typed.unit) bound.now.defs found.entry
+        → IsWhyAnalysed names.entry (unit_of bound.now.typed.unit) bound.now.defs a) }
+    ensures safe { IfOk result (λ a. (f : Findings) → a ≡ Analysed.Found (Safe f) → found.entry ≡ Analysed.Found (Safe f)) }
+{
+    match found {
+        Analysed::TooLong => Ok(Analysed::TooLong),
+        Analysed::Tried(findings, count, text) => Ok(Analysed::Tried(findings, count, text)),
+        Analysed::Found(Analysis::Safe(findings)) => Ok(Analysed::Found(Analysis::Safe(findings))),
+        Analysed::Found(Analysis::Paths(document)) => {
+            Ok(Analysed::Found(Analysis::Paths(document)))
+        }
+        Analysed::Found(Analysis::Unknown) => Ok(Analysed::Found(Analysis::Unknown)),
+        Analysed::Found(Analysis::Alarms(findings, count)) => {
+            alarms_with_scripts(alloc, names, bound, findings, count)
+        }
+    }
 }

@@ -1,7 +1,7 @@
 // What is found out of a program once, before it is searched.
 ghost use Rattle.std.specs.Prelude.{◌≡◌};
 
-use crate::cuts::loop_heads;
+use crate::cuts::first_cuts;
 use crate::walks::Task;
 use mc_base::{NoMemory, PointId, PredId};
 use mc_find_view::live::{
@@ -24,14 +24,19 @@ pub struct Prepared {
 }
 
 impl Prepared {
-    /// What is found out of a program.
-    pub fn of(alloc: Global, flow: &Flow, defs: &Defs) -> Result<Prepared, NoMemory> {
+    /// What is found out of a program, whose states are merged where an `if` ends or not.
+    pub fn of(alloc: Global, flow: &Flow, defs: &Defs, merge: bool) -> Result<Prepared, NoMemory> {
         let live = live_variables(alloc, flow)?;
         let stored = StoredFields::of(alloc, flow)?;
-        let constants = constant_variables(alloc, flow)?;
+        // States that are merged are told apart by no constants.
+        let constants = if merge {
+            Vec::new(alloc)
+        } else {
+            constant_variables(alloc, flow)?
+        };
         let wanted = wanted_predicates(alloc, flow, defs)?;
         let asserted = asserted_shapes(alloc, flow)?;
-        let cuts = loop_heads(alloc, flow)?;
+        let cuts = first_cuts(alloc, flow, merge)?;
         Ok(Prepared {
             live,
             stored,

@@ -4,6 +4,7 @@ ghost use Rattle.std.specs.List.{AllByRecursion};
 ghost use Rattle.mc_c_syntax.specs.Ast.Views.{unit_of};
 ghost use Rattle.mc_tries.specs.Found.{FaultsOnScript, IsFound, IsNoBlank};
 
+use crate::constants::constants;
 use crate::numbers::Numbers;
 use crate::search::{Candidate, search};
 use crate::shorten::joined;
@@ -29,7 +30,6 @@ pub struct Found {
 fn candidates(
     alloc: Global,
     bound: &Bound,
-    constants: &[i64],
     places: &[Place],
     runs: u64,
 ) -> Result<Vec<Candidate>, NoMemory> {
@@ -37,7 +37,8 @@ fn candidates(
     let infos = bound.typed().structs().list.as_slice();
     let texts = struct_texts(alloc, infos)?;
     let structs = NamedStructs::of(alloc, infos, texts.as_slice())?;
-    let numbers = Numbers::of(alloc, constants)?;
+    let constants = constants(alloc, &resolved, bound.defs().as_slice())?;
+    let numbers = Numbers::of(alloc, constants.as_slice())?;
     let Some(entry) = resolved.functions.get(resolved.entry) else {
         return Ok(Vec::new(alloc));
     };
@@ -147,7 +148,6 @@ fn all_confirmed(
 pub fn scripts(
     alloc: Global,
     bound: &Bound,
-    constants: &[i64],
     places: &[Place],
     runs: u64,
 ) -> Result<Vec<Found>, NoMemory>
@@ -156,6 +156,6 @@ pub fn scripts(
     if places.is_empty() || runs == 0 {
         return Ok(Vec::new(alloc));
     }
-    let candidates = candidates(alloc, bound, constants, places, runs)?;
+    let candidates = candidates(alloc, bound, places, runs)?;
     all_confirmed(alloc, bound, candidates.as_slice())
 }

@@ -6,6 +6,7 @@
 #![tactic(auto)]
 
 mod addresses;
+mod constants;
 mod draws;
 mod found;
 mod lines;

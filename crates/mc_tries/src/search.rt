@@ -12,6 +12,9 @@ const ALL_STEPS: u64 = 3_000_000;
 // How many runs are tried besides as many as were, when each place has a script.
 const MORE: u64 = 200;
 
+// How many bytes a line more counts.
+const LINE: usize = 1_000;
+
 /// A place, and the lines of the shortest script that was found on which a run faults there.
 #[derive(Drop)]
 pub struct Candidate {
@@ -27,7 +30,16 @@ struct Search {
     steps: u64,
 }
 
-// Takes the lines for a candidate that has none, or more; whether it had none.
+// How long a script is: a line counts more than its bytes.
+fn length(lines: &[Vec<u8>]) -> usize {
+    let mut length: usize = 0;
+    for line in lines {
+        length = length.saturating_add(line.len()).saturating_add(LINE);
+    }
+    length
+}
+
+// Takes the lines for a candidate that has none, or longer ones; whether it had none.
 fn offer(candidate: &mut Candidate, lines: Vec<Vec<u8>>) -> bool {
     match &candidate.lines {
         None => {
@@ -35,7 +47,7 @@ fn offer(candidate: &mut Candidate, lines: Vec<Vec<u8>>) -> bool {
             true
         }
         Some(before) => {
-            if lines.len() < before.len() {
+            if length(lines.as_slice()) < length(before.as_slice()) {
                 candidate.lines = Some(lines);
             }
             false
