@@ -6,7 +6,8 @@ use Rattle.mc_base.specs.declared.text.place.Place.{Place}
 use Rattle.mc_c_syntax.specs.Ast.Trees.{UnitTree}
 use Rattle.mc_flow.specs.declared.defs.rules.Def.{Def}
 use Rattle.mc_lines.specs.Cert.Lines.{lines_of}
-use Rattle.mc_tries.specs.Found.{FaultsOnScript, IsNoBlank}
+use Rattle.mc_tries.specs.Found.{FaultsOnScript, IsFound, IsNoBlank}
+use Rattle.mc_tries.specs.declared.found.Found.{Found}
 
 -- what is printed for a byte of a script: a blank for a line feed
 abbrev pub blank_for : ℕ → ℕ
@@ -37,6 +38,12 @@ pub record IsRealScript (entry : List ℕ) (unit : UnitTree) (defs : List Def) (
 abbrev pub IsBehind : (entry : List ℕ) → UnitTree → List Def → (line behind : List ℕ) → Type 0
 IsBehind entry unit defs line behind =
     (behind ≡ []) ⊎ ((script : List ℕ) × IsRealScript entry unit defs line script × (behind ≡ script_line script))
+
+-- what was added stands behind a line of a report of the program by which these scripts were found, whichever that is
+abbrev pub IsAddedBehind : List Found → (line before after : List ℕ) → Type 0
+IsAddedBehind found line before after =
+    (entry : List ℕ) (unit : UnitTree) (defs : List Def) → All (IsFound entry unit defs) found
+    → (behind : List ℕ) × IsBehind entry unit defs line behind × (after ≡ before ++ behind)
 
 -- the text is these lines, each ended by a line feed, and what stands behind each
 abbrev pub AreShown : (entry : List ℕ) → UnitTree → List Def → (lines : List (List ℕ)) → (text : List ℕ) → Type 0

@@ -1,6 +1,5 @@
 // Alarms for which runs are tried, and the lines of the scripts that are found.
-ghost use Rattle.std.specs.Prelude.{◌≡◌, ◌++◌, true, IfOk, IfSome, List, OnOk, ℕ};
-ghost use Rattle.std.specs.List.{AllByRecursion};
+ghost use Rattle.std.specs.Prelude.{◌≡◌, ◌++◌, true, All, Contains, IfOk, IfSome, List, OnOk, ℕ};
 ghost use Rattle.mc_c_syntax.specs.Ast.Trees.{UnitTree};
 ghost use Rattle.mc_c_syntax.specs.Ast.Views.{unit_of};
 ghost use Rattle.mc_flow.specs.declared.defs.rules.Def.{Def};
@@ -8,7 +7,7 @@ ghost use Rattle.mc_lines.specs.Cert.Lines.{lines_of};
 ghost use Rattle.mc_tries.specs.Found.{IsFound};
 ghost use Rattle.mc_find.specs.declared.analysis.analysis.Analysis.TheVariants.{Alarms, Safe};
 ghost use Rattle.mc_app.specs.Analyses.{IsWhyAnalysed};
-ghost use Rattle.mc_app.specs.Tried.{AreShown, IsAlarmAt, IsBehind, blank_for, parted, script_line};
+ghost use Rattle.mc_app.specs.Tried.{AreShown, IsAddedBehind, IsAlarmAt, blank_for, parted, script_line};
 
 use crate::analysing::Analysed;
 use crate::words::Analyse;
@@ -105,30 +104,45 @@ fn is_at(alloc: Global, line: &[u8], place: Place) -> Result<bool, NoMemory>
     Ok(line.starts_with(front.as_slice()))
 }
 
+// The first script that is for a line's place.
+fn script_for<'a>(
+    alloc: Global,
+    line: &[u8],
+    found: &'a [Found],
+) -> Result<Option<&'a Found>, NoMemory>
+    ensures { IfOk result (λ one. IfSome one (λ f. Contains found.now f.now × IsAlarmAt line.now f.now.place)) }
+{
+    for one in found {
+        if is_at(alloc, line, one.place)? {
+            return Ok(Some(one));
+        }
+    }
+    Ok(None)
+}
+
 // Adds the line of the first script that is for a line's place, if there is one.
+#[tactic(auto, using(crate::proofs::Shown::adds_script, crate::proofs::Shown::adds_nothing))]
 fn push_found(
     alloc: Global,
     out: &mut Vec<u8>,
     line: &[u8],
     found: &[Found],
 ) -> Result<(), NoMemory>
-    ensures { OnOk result ((entry : List ℕ) (unit : UnitTree) (defs : List Def) → AllByRecursion (IsFound entry unit defs) found.now
-        → (behind : List ℕ) × IsBehind entry unit defs line.now behind × (out.new.items ≡ out.old.items ++ behind)) }
+    ensures { OnOk result (IsAddedBehind found.now line.now out.old.items out.new.items) }
 {
-    let mut left = found;
-    while let [one, more @ ..] = left {
-        if is_at(alloc, line, one.place)? {
-            return push_real(out, one.script.as_slice());
+    match script_for(alloc, line, found)? {
+        Some(one) => {
+            push_real(out, one.script.as_slice())?;
+            Ok(())
         }
-        left = more;
+        None => Ok(()),
     }
-    Ok(())
 }
 
 // A report with the lines of scripts behind those of alarms that have none.
 fn shown(alloc: Global, report: &[u8], found: &[Found]) -> Result<Vec<u8>, NoMemory>
     ensures { IfOk result (λ text. (entry : List ℕ) (unit : UnitTree) (defs : List Def)
-        → AllByRecursion (IsFound entry unit defs) found.now → AreShown entry unit defs (lines_of report.now) text.items) }
+        → All (IsFound entry unit defs) found.now → AreShown entry unit defs (lines_of report.now) text.items) }
 {
     let mut text = Vec::new(alloc);
     let mut rest = report;

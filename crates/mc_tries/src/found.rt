@@ -1,6 +1,5 @@
 // Scripts on which a program faults, each of which was run.
 ghost use Rattle.std.specs.Prelude.{◌↔◌, All, IfOk, IfSome, IsTrue};
-ghost use Rattle.std.specs.List.{AllByRecursion};
 ghost use Rattle.mc_c_syntax.specs.Ast.Views.{unit_of};
 ghost use Rattle.mc_tries.specs.Found.{FaultsOnScript, IsFound, IsNoBlank};
 
@@ -14,7 +13,7 @@ use mc_base::{FaultKind, NoMemory};
 use mc_c_check::Bound;
 use mc_resolve::resolve;
 use mc_run::Program;
-use mc_run::interpret::{Ending, interpret};
+use mc_run::interpret::{Ending, faults_are_one, interpret};
 use mc_run_values::script::{NamedStructs, struct_texts};
 use std::alloc::Global;
 
@@ -74,6 +73,8 @@ fn kind_of(
     ensures { IfOk result (λ found. IfSome found (λ kind. FaultsOnScript bound.now.typed.entry (unit_of bound.now.typed.unit)
         bound.now.defs kind place script.now)) }
 {
+    // For the proof alone: a program comes to one end with a script.
+    faults_are_one();
     match interpret(alloc, bound, script, STEPS)? {
         Ending::Fault(kind, at) => {
             if at == place {
@@ -133,7 +134,7 @@ fn all_confirmed(
     bound: &Bound,
     candidates: &[Candidate],
 ) -> Result<Vec<Found>, NoMemory>
-    ensures { IfOk result (λ found. AllByRecursion (IsFound bound.now.typed.entry (unit_of bound.now.typed.unit) bound.now.defs) found.items) }
+    ensures { IfOk result (λ found. All (IsFound bound.now.typed.entry (unit_of bound.now.typed.unit) bound.now.defs) found.items) }
 {
     let mut list = Vec::new(alloc);
     for candidate in candidates {
@@ -151,7 +152,7 @@ pub fn scripts(
     places: &[Place],
     runs: u64,
 ) -> Result<Vec<Found>, NoMemory>
-    ensures { IfOk result (λ found. AllByRecursion (IsFound bound.now.typed.entry (unit_of bound.now.typed.unit) bound.now.defs) found.items) }
+    ensures { IfOk result (λ found. All (IsFound bound.now.typed.entry (unit_of bound.now.typed.unit) bound.now.defs) found.items) }
 {
     if places.is_empty() || runs == 0 {
         return Ok(Vec::new(alloc));
