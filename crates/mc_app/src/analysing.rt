@@ -80,11 +80,7 @@ fn analyse_bound(alloc: Global, names: Analyse<'_>, bound: &Bound) -> Result<Ana
 }
 
 // Analyses a program with its definitions, and tries runs for its alarms.
-fn analyse_and_try(
-    alloc: Global,
-    names: Analyse<'_>,
-    bound: &Bound,
-) -> Result<Analysed, AllocError>
+fn analyse_and_try(alloc: Global, names: Analyse<'_>, bound: &Bound) -> Result<Analysed, AllocError>
     requires well_formed { IsWellFormed names.start.now (unit_of bound.now.typed.unit) }
     requires start { bound.now.typed.entry ≡ names.start.now }
     ensures why { IfOk result (λ found. IsWhyAnalysed names.entry (unit_of bound.now.typed.unit) bound.now.defs found) }

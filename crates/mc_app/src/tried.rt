@@ -32,7 +32,9 @@ fn number(bytes: &[u8]) -> (u32, &[u8]) {
         if !byte.is_ascii_digit() {
             break;
         }
-        number = number.saturating_mul(10).saturating_add(u32::from(*byte).saturating_sub(48));
+        number = number
+            .saturating_mul(10)
+            .saturating_add(u32::from(*byte).saturating_sub(48));
         rest = more;
     }
     (number, rest)
@@ -185,7 +187,7 @@ fn alarms_with_scripts(
     count: u64,
 ) -> Result<Analysed, NoMemory>
     requires { bound.now.typed.entry ≡ names.start.now }
-    ensures why { IfOk result (λ a. IsWhyAnalysed names.entry (unit_of bound.now.typed.unit) bound.now.defs (Analysed.Found (Alarms findings.entry count))
+    ensures why { IfOk result (λ a. IsWhyAnalysed names.entry (unit_of bound.now.typed.unit) bound.now.defs (Analysed.Found (Alarms findings count))
         → IsWhyAnalysed names.entry (unit_of bound.now.typed.unit) bound.now.defs a) }
     ensures safe { IfOk result (λ a. (f : Findings) → a ≡ Analysed.Found (Safe f) → ⊥) }
 {
@@ -203,9 +205,9 @@ pub fn with_scripts(
     found: Analysed,
 ) -> Result<Analysed, NoMemory>
     requires { bound.now.typed.entry ≡ names.start.now }
-    ensures why { IfOk result (λ a. IsWhyAnalysed names.entry (unit_of bound.now.typed.unit) bound.now.defs found.entry
+    ensures why { IfOk result (λ a. IsWhyAnalysed names.entry (unit_of bound.now.typed.unit) bound.now.defs found
         → IsWhyAnalysed names.entry (unit_of bound.now.typed.unit) bound.now.defs a) }
-    ensures safe { IfOk result (λ a. (f : Findings) → a ≡ Analysed.Found (Safe f) → found.entry ≡ Analysed.Found (Safe f)) }
+    ensures safe { IfOk result (λ a. (f : Findings) → a ≡ Analysed.Found (Safe f) → found ≡ Analysed.Found (Safe f)) }
 {
     match found {
         Analysed::TooLong => Ok(Analysed::TooLong),

@@ -138,11 +138,7 @@ impl<'a> Constants<'a> {
         }
     }
 
-    fn guarded(
-        &mut self,
-        condition: &'a Condition,
-        part: &'a Statement,
-    ) -> Result<(), NoMemory> {
+    fn guarded(&mut self, condition: &'a Condition, part: &'a Statement) -> Result<(), NoMemory> {
         self.condition(condition)?;
         self.statement(part)
     }
@@ -251,11 +247,7 @@ impl<'a> Constants<'a> {
 }
 
 /// The numbers that a program and its definitions name.
-pub fn constants(
-    alloc: Global,
-    program: &Resolved,
-    defs: &[Def],
-) -> Result<Vec<i64>, NoMemory> {
+pub fn constants(alloc: Global, program: &Resolved, defs: &[Def]) -> Result<Vec<i64>, NoMemory> {
     let mut constants = Constants {
         left: Vec::new(alloc),
         numbers: Vec::new(alloc),

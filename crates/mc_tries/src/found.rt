@@ -114,11 +114,7 @@ fn tried(
 }
 
 // A candidate is run.
-fn confirmed(
-    alloc: Global,
-    bound: &Bound,
-    candidate: &Candidate,
-) -> Result<Option<Found>, NoMemory>
+fn confirmed(alloc: Global, bound: &Bound, candidate: &Candidate) -> Result<Option<Found>, NoMemory>
     ensures { IfOk result (λ found. IfSome found (IsFound bound.now.typed.entry (unit_of bound.now.typed.unit) bound.now.defs)) }
 {
     let Some(lines) = &candidate.lines else {

@@ -193,7 +193,12 @@ impl<'a> Maker<'a> {
         names.push(open.at)?;
         names.extend_from_slice(open.arguments.as_slice())?;
         for place in names.len()..rule.names.len() {
-            let kind = rule.names.as_slice().get(place).copied().unwrap_or(Kind::Int);
+            let kind = rule
+                .names
+                .as_slice()
+                .get(place)
+                .copied()
+                .unwrap_or(Kind::Int);
             names.push(self.slots.add(kind, None)?)?;
         }
         Ok(names)
@@ -228,7 +233,8 @@ impl<'a> Maker<'a> {
             return Ok(());
         };
         if self.slots.value(open.at).is_none() {
-            self.slots.set(open.at, self.address.min(1_000_000_000) as i64);
+            self.slots
+                .set(open.at, self.address.min(1_000_000_000) as i64);
             self.address = self.address.saturating_add(1);
             self.slots.settle();
         }

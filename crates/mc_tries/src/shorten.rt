@@ -50,12 +50,7 @@ fn faults(task: Task<'_>, place: Place, script: &[u8]) -> Result<bool, NoMemory>
 
 impl Shorter {
     // Whether a script is one try more that faults at a place.
-    fn is_enough(
-        &mut self,
-        task: Task<'_>,
-        place: Place,
-        script: &[u8],
-    ) -> Result<bool, NoMemory> {
+    fn is_enough(&mut self, task: Task<'_>, place: Place, script: &[u8]) -> Result<bool, NoMemory> {
         if self.left == 0 {
             return Ok(false);
         }

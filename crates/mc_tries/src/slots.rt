@@ -57,7 +57,11 @@ impl Slots {
     }
 
     pub fn kind(&self, name: usize) -> Kind {
-        self.kinds.as_slice().get(name).copied().unwrap_or(Kind::Int)
+        self.kinds
+            .as_slice()
+            .get(name)
+            .copied()
+            .unwrap_or(Kind::Int)
     }
 
     /// A name has this value.

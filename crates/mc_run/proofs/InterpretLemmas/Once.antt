@@ -204,12 +204,12 @@ module _ (determined : (p : Program) → IsDetermined (Step p)) (only : (p : Pro
       let j = both other rest too in
       let asked = subst (λ (ks : List Choice). AsksAfter (Step p) (Asks p) n (start p f) ks request j.behind_other) j.is_other (asks j.behind_other) in
       absurd (never other rest j n asked.0 asked.1 asked.2
-          (record { request = request; left = j.behind_other; asks = asked.3; unanswered = no_answer structs request left rest j.behind_other j.given none }))
+      (record { request = request; left = j.behind_other; asks = asked.3; unanswered = no_answer structs request left rest j.behind_other j.given none }))
   answered (Bad k) (other, rest, too, (number, (n, less, (request, asks, bad)))) =
       let j = both other rest too in
       let asked = subst (λ (ks : List Choice). AsksAfter (Step p) (Asks p) n (start p f) ks request j.behind_other) j.is_other (asks j.behind_other) in
       absurd (never other rest j n asked.0 asked.1 asked.2
-          (record { request = request; left = j.behind_other; asks = asked.3; unanswered = bad_answer structs request left rest j.behind_other j.given bad }))
+      (record { request = request; left = j.behind_other; asks = asked.3; unanswered = bad_answer structs request left rest j.behind_other j.given bad }))
 
 pub faults_are_one : ((p : Program) → IsDetermined (Step p)) → ((p : Program) → ComesToOneEnd (Step p)) → ProgramsStepEndOrWait → FaultsAreOne
 faults_are_one determined only waiting unit entry defs script n fuel kind place ending typed le (f, is, faults) (h, called, runs) =

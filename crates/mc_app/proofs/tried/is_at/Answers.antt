@@ -14,5 +14,5 @@ returns c = λ starts.
     let rest = drop (length front) line in
     let found : line ≡ front ++ rest = (starts_is Decides-eqb line front c.starts_with.result c.starts_with.ensures.value).0 starts in
     let front_is : front ≡ (codes "alarm at " ++ place) ++ codes " " =
-        rw (c.as_slice.ensures.value, c.in_ok-push.ensures.items, c.in_ok-print_place.ensures, c.in_ok-extend_from_slice.ensures.items, c.new-front.ensures.items) refl in
+    rw (c.as_slice.ensures.value, c.in_ok-push.ensures.items, c.in_ok-print_place.ensures, c.in_ok-extend_from_slice.ensures.items, c.new-front.ensures.items) refl in
     (rest, found ∙ ap (λ (l : List ℕ). l ++ rest) (front_is ∙ append_assoc (codes "alarm at ") place (codes " ")))
