@@ -8,7 +8,7 @@ use Rattle.mc_flow.specs.declared.defs.rules.Def.{Def}
 use Rattle.mc_lines.specs.Cert.Lines.{lines_of}
 use Rattle.mc_tries.specs.Found.{IsFound}
 use Rattle.mc_tries.specs.declared.found.Found.{Found}
-use Rattle.mc_app.specs.Tried.{AreShown, IsAddedBehind, IsAlarmAt, IsBehind, blank_for, parted, script_line}
+use Rattle.mc_app.specs.Tried.{AreShown, IsAddedBehind, IsAlarmAt, blank_for, parted, script_line}
 
 -- whatever is shown of the lines that are left, behind the text it is shown of the report
 abbrev pub SoFar : (report : List ℕ) → List Found → (text rest : List ℕ) → Type 0
