@@ -247,7 +247,7 @@ impl<'a> Constants<'a> {
 }
 
 /// The numbers that a program and its definitions name.
-pub fn constants(alloc: Global, program: &Resolved, defs: &[Def]) -> Result<Vec<i64>, NoMemory> {
+pub fn constants_of(alloc: Global, program: &Resolved, defs: &[Def]) -> Result<Vec<i64>, NoMemory> {
     let mut constants = Constants {
         left: Vec::new(alloc),
         numbers: Vec::new(alloc),

@@ -3,9 +3,9 @@ ghost use Rattle.std.specs.Prelude.{◌↔◌, All, IfOk, IfSome, IsTrue};
 ghost use Rattle.mc_c_syntax.specs.Ast.Views.{unit_of};
 ghost use Rattle.mc_tries.specs.Found.{FaultsOnScript, IsFound, IsNoBlank};
 
-use crate::constants::constants;
+use crate::constants::constants_of;
 use crate::numbers::Numbers;
-use crate::search::{Candidate, search};
+use crate::search::{Candidate, find_candidates};
 use crate::shorten::joined;
 use crate::walk::{STEPS, Task};
 use mc_base::text::Place;
@@ -36,7 +36,7 @@ fn candidates(
     let infos = bound.typed().structs().list.as_slice();
     let texts = struct_texts(alloc, infos)?;
     let structs = NamedStructs::of(alloc, infos, texts.as_slice())?;
-    let constants = constants(alloc, &resolved, bound.defs().as_slice())?;
+    let constants = constants_of(alloc, &resolved, bound.defs().as_slice())?;
     let numbers = Numbers::of(alloc, constants.as_slice())?;
     let Some(entry) = resolved.functions.get(resolved.entry) else {
         return Ok(Vec::new(alloc));
@@ -53,7 +53,7 @@ fn candidates(
         entry,
         numbers: &numbers,
     };
-    search(task, places, runs)
+    find_candidates(task, places, runs)
 }
 
 // Whether no byte is a blank.

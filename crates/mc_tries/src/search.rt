@@ -2,7 +2,7 @@
 use crate::draws::Draws;
 use crate::shorten::shorten;
 use crate::style::style_of;
-use crate::walk::{Task, Walked, walk};
+use crate::walk::{Task, Walked, run_drawn};
 use mc_base::NoMemory;
 use mc_base::text::Place;
 
@@ -86,7 +86,7 @@ impl Search {
                 return Ok(());
             }
             let style = style_of(&mut draws);
-            let walked = walk(task, style, &mut draws)?;
+            let walked = run_drawn(task, style, &mut draws)?;
             self.steps = self.steps.saturating_add(walked.steps);
             let was_missing = self.missing > 0;
             self.take(walked);
@@ -99,7 +99,11 @@ impl Search {
 }
 
 /// For each place the lines of a script on which a run faults there, where one is found in so many runs.
-pub fn search(task: Task<'_>, places: &[Place], runs: u64) -> Result<Vec<Candidate>, NoMemory> {
+pub fn find_candidates(
+    task: Task<'_>,
+    places: &[Place],
+    runs: u64,
+) -> Result<Vec<Candidate>, NoMemory> {
     let mut candidates = Vec::new(task.alloc);
     for place in places {
         candidates.push(Candidate {

@@ -49,7 +49,7 @@ fn request_of<'a>(right: &'a RightSide) -> Request<'a> {
 }
 
 // What a step asks for, if it asks.
-fn request<'a>(next: Next<'a>) -> Request<'a> {
+fn asked_by<'a>(next: Next<'a>) -> Request<'a> {
     match next {
         Next::AssumeShape(shape) => Request::Shape(shape),
         Next::Declare(_, item) => match &item.value {
@@ -177,7 +177,7 @@ impl<'a> Walk<'a> {
     // A line for what a step asks for, if one is found.
     fn line(&mut self, draws: &mut Draws, next: Next<'a>) -> Result<Option<Vec<u8>>, NoMemory> {
         let alloc = self.task.alloc;
-        match request(next) {
+        match asked_by(next) {
             Request::Input => Ok(Some(input_line(alloc, self.input(draws))?)),
             Request::Address(shape) => {
                 let address = self.address(draws);
@@ -246,7 +246,7 @@ impl<'a> Walk<'a> {
 }
 
 /// A run whose choices are drawn.
-pub fn walk(task: Task<'_>, style: Style, draws: &mut Draws) -> Result<Walked, NoMemory> {
+pub fn run_drawn(task: Task<'_>, style: Style, draws: &mut Draws) -> Result<Walked, NoMemory> {
     let mut walk = Walk::start(task, style)?;
     let (fault, steps) = walk.run(draws)?;
     let lines = walk.into_lines();

@@ -39,7 +39,7 @@ use Rattle.mc_run.proofs.InterpretLemmas.Faults.{past, steps}
 
 -- ---- lines
 
-number_in : Data → ℤ
+abbrev number_in : Data → ℤ
 number_in null = pos 0
 number_in (boolean b) = pos 0
 number_in (number (unsigned n)) = pos n
@@ -57,7 +57,7 @@ signed_once : (z w : ℤ) → signed_data z ≡ signed_data w → z ≡ w
 signed_once z w e = sym (number_back z) ∙ ap number_in e ∙ number_back w
 
 module _ (structs : List StructInfo) where
-  named_block : ℕ → List ℕ → List ℤ → Option (ℕ × Block)
+  abbrev named_block : ℕ → List ℕ → List ℤ → Option (ℕ × Block)
   named_block a name fields = option_map (λ n. (a, record { shape = n; fields = map Some fields })) (position (λ s. is_same s.name name) structs)
 
   block_once : (b c : NamedBlock) → block_data b ≡ block_data c → block_in structs b ≡ block_in structs c
@@ -200,12 +200,12 @@ module _ (determined : (p : Program) → IsDetermined (Step p)) (only : (p : Pro
       let j = both other rest too in
       let own = subst (λ (ks : List Choice). GoesOn (Step p) fuel (start p f) ks) j.is_other (on j.behind_other) in
       absurd (past (Step p) (determined p) kind place fuel m (start p f) own.0 j.all own.1 own.2 (came other rest j) le)
-  answered (Short k) (other, rest, too, (number, (n, less, (request, asks, none)))) =
+  answered (Short k) (other, rest, too, (nth, (n, less, (request, asks, none)))) =
       let j = both other rest too in
       let asked = subst (λ (ks : List Choice). AsksAfter (Step p) (Asks p) n (start p f) ks request j.behind_other) j.is_other (asks j.behind_other) in
       absurd (never other rest j n asked.0 asked.1 asked.2
       (record { request = request; left = j.behind_other; asks = asked.3; unanswered = no_answer structs request left rest j.behind_other j.given none }))
-  answered (Bad k) (other, rest, too, (number, (n, less, (request, asks, bad)))) =
+  answered (Bad k) (other, rest, too, (nth, (n, less, (request, asks, bad)))) =
       let j = both other rest too in
       let asked = subst (λ (ks : List Choice). AsksAfter (Step p) (Asks p) n (start p f) ks request j.behind_other) j.is_other (asks j.behind_other) in
       absurd (never other rest j n asked.0 asked.1 asked.2
