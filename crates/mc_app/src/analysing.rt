@@ -39,7 +39,7 @@ pub enum Analysed {
 
 // How the words want a flow graph to be analysed.
 fn settings(names: Analyse<'_>) -> Settings
-    ensures { result.merge ≡ names.merge }
+    ensures { result.merge ≡ names.entry.merge }
 {
     Settings {
         states: names.disjuncts as usize,

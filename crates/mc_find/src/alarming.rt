@@ -181,7 +181,7 @@ fn try_one(
     left: &mut u64,
 ) -> Result<Option<Offer>, NoMemory>
     requires { IsValid task.sight.flow.now task.sight.defs.now }
-    ensures { IfOk result (λ found. IfSome found (λ offer. IsProposed task.entry.sight.flow.now task.entry.sight.defs.now limits.entry.merge offer.proposed)) }
+    ensures { IfOk result (λ found. IfSome found (λ offer. IsProposed task.entry.sight.flow.now task.entry.sight.defs.now limits.merge offer.proposed)) }
 {
     let own = Limits {
         lines: limits.lines.min(*left),
@@ -255,7 +255,7 @@ pub fn try_all(
     faults: &[Blocked],
 ) -> Result<Option<Proposed>, NoMemory>
     requires { IsValid task.sight.flow.now task.sight.defs.now }
-    ensures { IfOk result (λ found. IfSome found (λ proposed. IsProposed task.entry.sight.flow.now task.entry.sight.defs.now limits.entry.merge proposed)) }
+    ensures { IfOk result (λ found. IfSome found (λ proposed. IsProposed task.entry.sight.flow.now task.entry.sight.defs.now limits.merge proposed)) }
 {
     let mut left = limits.lines.saturating_mul(WHOLE);
     let mut best: Option<Offer> = None;

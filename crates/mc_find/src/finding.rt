@@ -66,7 +66,7 @@ fn try_one(
     requires { IsValid task.sight.flow.now task.sight.defs.now }
     ensures { IfOk result
         (λ found. IfSome found
-        (λ lines. IsFound task.entry.sight.flow.now task.entry.sight.defs.now limits.entry.merge lines.items)) }
+        (λ lines. IsFound task.entry.sight.flow.now task.entry.sight.defs.now limits.merge lines.items)) }
 {
     let own = Limits {
         lines: limits.lines.min(*left),
@@ -104,7 +104,7 @@ pub fn first_certificate(
     requires { IsValid task.sight.flow.now task.sight.defs.now }
     ensures { IfOk result
         (λ found. IfSome found
-        (λ lines. IsFound task.entry.sight.flow.now task.entry.sight.defs.now limits.entry.merge lines.items)) }
+        (λ lines. IsFound task.entry.sight.flow.now task.entry.sight.defs.now limits.merge lines.items)) }
 {
     let plan = planned(0, 0, Step::Plain, limits.keys);
     try_one(alloc, task, plan, limits, left)
@@ -120,7 +120,7 @@ pub fn later_certificate(
     requires { IsValid task.sight.flow.now task.sight.defs.now }
     ensures { IfOk result
         (λ found. IfSome found
-        (λ lines. IsFound task.entry.sight.flow.now task.entry.sight.defs.now limits.entry.merge lines.items)) }
+        (λ lines. IsFound task.entry.sight.flow.now task.entry.sight.defs.now limits.merge lines.items)) }
 {
     for plan in &later_plans(limits.keys) {
         if *left > 0 {

@@ -21,6 +21,7 @@ pub struct Prepared {
     wanted: Vec<PredId>,
     asserted: Vec<Asserted>,
     cuts: Vec<PointId>,
+    all: bool,
 }
 
 impl Prepared {
@@ -28,7 +29,7 @@ impl Prepared {
     pub fn of(alloc: Global, flow: &Flow, defs: &Defs, merge: bool) -> Result<Prepared, NoMemory> {
         let live = live_variables(alloc, flow)?;
         let stored = StoredFields::of(alloc, flow)?;
-        // States that are merged are told apart by no constants.
+        // States that are merged are told apart by no constants, and all that they say of variables is kept.
         let constants = if merge {
             Vec::new(alloc)
         } else {
@@ -44,6 +45,7 @@ impl Prepared {
             wanted,
             asserted,
             cuts,
+            all: merge || asks_for_empty(flow),
         })
     }
 
@@ -58,7 +60,7 @@ impl Prepared {
             live: &self.live,
             stored: &self.stored,
             constants: self.constants.as_slice(),
-            all: asks_for_empty(flow),
+            all: self.all,
         };
         Task {
             sight,

@@ -25,7 +25,7 @@ fn more_certificates(
     requires { IsValid task.sight.flow.now task.sight.defs.now }
     ensures { IfOk result
         (λ found. IfSome found
-        (λ lines. IsFound task.entry.sight.flow.now task.entry.sight.defs.now limits.entry.merge lines.items)) }
+        (λ lines. IsFound task.entry.sight.flow.now task.entry.sight.defs.now limits.merge lines.items)) }
 {
     if faults.is_empty() {
         later_certificate(alloc, task, limits, left)
@@ -39,7 +39,7 @@ fn search_task(alloc: Global, task: Task<'_>, limits: Limits) -> Result<Option<P
     requires { IsValid task.sight.flow.now task.sight.defs.now }
     ensures { IfOk result
         (λ found. IfSome found
-        (λ proposed. IsProposed task.entry.sight.flow.now task.entry.sight.defs.now limits.entry.merge proposed)) }
+        (λ proposed. IsProposed task.entry.sight.flow.now task.entry.sight.defs.now limits.merge proposed)) }
 {
     let mut left = lines_in_all(limits);
     if let Some(lines) = first_certificate(alloc, task, limits, &mut left)? {
@@ -63,7 +63,7 @@ pub fn search(
     limits: Limits,
 ) -> Result<Option<Proposed>, NoMemory>
     requires { IsValid flow.now defs.now }
-    ensures { IfOk result (λ found. IfSome found (λ proposed. IsProposed flow.now defs.now limits.entry.merge proposed)) }
+    ensures { IfOk result (λ found. IfSome found (λ proposed. IsProposed flow.now defs.now limits.merge proposed)) }
 {
     let prepared = Prepared::of(alloc, flow, defs, limits.merge)?;
     search_task(alloc, prepared.task(flow, defs), limits)

@@ -1,7 +1,7 @@
 -- The lines of a chain without stuck branches are in their places in the certificate too.
 use Rattle.std.proofs.Common.{◌≡◌, ◌++◌, ◌∷◌, ◌∙◌, ◌+◌, ◌≤◌, ℕ, List, [], Bool, true, false, map, refl, sym, ap, subst, arith}
 use Rattle.std.specs.Prelude.{Ok, Some, None, if◌then◌else◌}
-use Rattle.std.proofs.lemmas.List.{map-append}
+use Rattle.std.proofs.lemmas.List.{map-append, nil_from_length}
 use Rattle.std.specs.List.{AllByRecursion, filter, list_all}
 use Rattle.mc_base.specs.declared.ids.PointId.{PointId}
 use Rattle.mc_lines.specs.declared.cert.line.Line.{Line}
@@ -25,9 +25,11 @@ use Rattle.mc_kernel.specs.Reading.Laws.{LinesMakeWellMade}
 use Rattle.mc_kernel.proofs.ReadingLemmas.Front.{head_line}
 use Rattle.mc_kernel.proofs.ReadingLemmas.Lists.{all_join}
 use Rattle.mc_kernel.proofs.ReadingLemmas.Rules.{ruling_at}
-use Rattle.mc_document.specs.Places.{AreInPlace, HasPlaces, cut_of, cuts_of, may_stand}
+use Rattle.mc_document.specs.Places.{AreInPlace, HasPlaces, cuts_of, may_stand}
 use Rattle.mc_document.proofs.PlacesLemmas.{one_next}
 use Rattle.mc_document.proofs.ProofLemmas.Roots.{roots_made}
+use Rattle.mc_follow.specs.Alarms.Outcomes.{IsWhole}
+use Rattle.mc_follow.specs.declared.alarms.outcome.Document.{Document}
 use Rattle.mc_follow.specs.Alarms.Walks.{ended_by, ending}
 use Rattle.mc_find.specs.Analysis.Findings.{IsFound, stays, under_header}
 use Rattle.mc_find.proofs.AcceptedLemmas.{none_asked}
@@ -197,3 +199,11 @@ calm_is_found judged makes unknown flow defs lines valid no_loops c few places =
             (subst (λ (ls : List Line). AreInPlace k well flow defs ls (begun Chain)) behind (places.sides.in_place k well judge)));
       };
     }
+
+-- such lines as they are written, of a chain in which every branch is followed
+pub calm_written : LinesAreJudged → LinesMakeWellMade → UnknownIsBounded → (flow : Flow) (defs : List Def) (d : Document) (written : List Line) → IsValid flow defs
+    → flow.heads ≡ [] → IsWhole flow defs d → d.count ≡ 0 → written ≡ under_header d.lines.items → IsFound flow defs false written
+calm_written judged makes unknown flow defs d written valid no_loops whole none same =
+    let calm : whole.stuck ≡ [] = nil_from_length whole.stuck (sym whole.counted ∙ none) in
+    let chain : IsShortChain flow defs d.lines.items [] = subst (λ (stuck : List Path). IsShortChain flow defs d.lines.items stuck) calm whole.chain in
+    subst (λ (ls : List Line). IsFound flow defs false ls) (sym same) (calm_is_found judged makes unknown flow defs d.lines.items valid no_loops chain whole.within whole.places)

@@ -2,6 +2,7 @@
 ghost use Rattle.std.specs.Prelude.{◌≡◌, ◌<◌, [], Bool, false, IfOk, IfSome};
 ghost use Rattle.mc_follow.specs.Alarms.Outcomes.{IsCrowded, IsWhole};
 ghost use Rattle.mc_flow.specs.Valid.{IsValid};
+ghost use Rattle.mc_kernel.specs.Certificates.{IsValidCertificate};
 ghost use Rattle.mc_find.specs.Analysis.Findings.{HasAlarms, HasTooManyPaths, IsAnalysis, IsFollowedWhole, IsFound, IsProposed, IsProved, IsReported, stays, under_header};
 
 use crate::analysis::{Analysis, Findings, Proposed, Settings};
@@ -19,6 +20,7 @@ use std::alloc::Global;
 
 // The document of a certificate and its report.
 fn proved(alloc: Global, flow: &Flow, defs: &Defs, lines: &[Line]) -> Result<Findings, NoMemory>
+    requires { IsValidCertificate flow.now defs.now lines.now }
     ensures { IfOk result (λ f. (merge : Bool) → IsFound flow.now defs.now merge lines.now → IsProved flow.now defs.now merge f) }
 {
     let report = certificate_report(alloc, flow, defs, lines)?;
@@ -134,7 +136,7 @@ fn certificate(
     settings: Settings,
 ) -> Result<Option<Vec<Line>>, NoMemory>
     requires { IsValid flow.now defs.now }
-    ensures { IfOk result (λ found. IfSome found (λ lines. IsFound flow.now defs.now settings.entry.merge lines.items)) }
+    ensures { IfOk result (λ found. IfSome found (λ lines. IsFound flow.now defs.now settings.merge lines.items)) }
 {
     match search(alloc, flow, defs, settings.limits())? {
         Some(Proposed::Certificate(lines)) => Ok(Some(lines)),
@@ -154,7 +156,7 @@ fn with_many_paths(
 ) -> Result<Analysis, NoMemory>
     requires valid { IsValid flow.now defs.now }
     requires crowded { IsCrowded flow.now defs.now lines.items }
-    ensures { IfOk result (IsAnalysis flow.now defs.now settings.entry.merge) }
+    ensures { IfOk result (IsAnalysis flow.now defs.now settings.merge) }
 {
     match certificate(alloc, flow, defs, settings)? {
         Some(found) => {
@@ -178,7 +180,7 @@ fn without_loops(
     requires valid { IsValid flow.now defs.now }
     requires no_loops { flow.now.heads ≡ [] }
     requires no_merge { settings.merge ≡ false }
-    ensures { IfOk result (IsAnalysis flow.now defs.now settings.entry.merge) }
+    ensures { IfOk result (IsAnalysis flow.now defs.now settings.merge) }
 {
     match alarms(alloc, flow, defs)? {
         Outcome::Whole(chain) => followed(alloc, flow, defs, chain),
@@ -220,7 +222,7 @@ fn searched(
 ) -> Result<Analysis, NoMemory>
     requires valid { IsValid flow.now defs.now }
     requires searched { IsFollowedWhole flow.now settings.merge → ⊥ }
-    ensures { IfOk result (IsAnalysis flow.now defs.now settings.entry.merge) }
+    ensures { IfOk result (IsAnalysis flow.now defs.now settings.merge) }
 {
     match search(alloc, flow, defs, settings.limits())? {
         Some(proposed) => answered(alloc, flow, defs, settings.merge, proposed),
@@ -236,7 +238,7 @@ pub fn analyse(
     settings: Settings,
 ) -> Result<Analysis, NoMemory>
     requires { IsValid flow.now defs.now }
-    ensures { IfOk result (IsAnalysis flow.now defs.now settings.entry.merge) }
+    ensures { IfOk result (IsAnalysis flow.now defs.now settings.merge) }
 {
     if flow.heads.is_empty() && !settings.merge {
         without_loops(alloc, flow, defs, settings)

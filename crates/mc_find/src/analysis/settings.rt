@@ -20,7 +20,7 @@ pub struct Settings {
 impl Settings {
     /// The limits of an attempt.
     pub fn limits(self) -> Limits
-        ensures { result.merge ≡ self.entry.merge }
+        ensures { result.merge ≡ self.merge }
     {
         Limits {
             lines: LINES,

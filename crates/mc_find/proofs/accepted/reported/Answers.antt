@@ -10,9 +10,9 @@ returns-then-not-ends_few-clause-none c = λ none found.
     let clash : false ≡ true = sym c.if-not-ends_few.true ∙ c.ends_few.ensures.1 found.within in
     cc clash
 
-pub returns-then-not-has_cuts-clause-none : goal.returns-then-not-has_cuts-clause-none
-returns-then-not-has_cuts-clause-none c = λ none found.
-    let clash : false ≡ true = sym c.if-not-has_cuts.true ∙ c.in_ok-has_cuts.ensures.1 found.cuts in
+pub returns-then-not-branch-clause-none : goal.returns-then-not-branch-clause-none
+returns-then-not-branch-clause-none c = λ none found.
+    let clash : false ≡ true = sym c.if-not-branch.true ∙ c.in_ok-has_cuts.ensures.1 found.cuts in
     cc clash
 
 pub returns-in_default-clause-none : goal.returns-in_default-clause-none
@@ -35,5 +35,5 @@ returns-clause-some c =
     let lines = c.args.lines.now in
     let report = c.in-Some.report in
     let told : IsReportOf flow defs lines report = subst (λ (found : Option ChainReport). IfSome found (IsReportOf flow defs lines)) c.in-Some.is c.in_ok-report.ensures.some in
-    chain_reported flow defs c.args.merge lines report (c.ends_few.ensures.0 c.if-not-ends_few.false) (c.in_ok-has_cuts.ensures.0 c.if-not-has_cuts.false)
+    chain_reported flow defs c.args.merge lines report (c.ends_few.ensures.0 c.if-not-ends_few.false) (c.in_ok-has_cuts.ensures.0 c.if-not-branch.false)
     c.if-report-eq0.false told

@@ -1,4 +1,4 @@
-use Rattle.std.proofs.Common.{◌≡◌, ◌<◌, ℕ, zero, suc, true, List, [], ◌∷◌, length, ap, arith, refl}
+use Rattle.std.proofs.Common.{◌≡◌, ℕ, zero, suc, List, [], ◌∷◌, ap, arith, refl}
 use Rattle.std.specs.Prelude.{All, Contains}
 use Rattle.std.proofs.lemmas.List.Elements.{All-cons, All-nil}
 use Rattle.mc_base.specs.declared.ids.PointId.{PointId}
@@ -21,16 +21,16 @@ another n m differ (zero, within, e) = differ (ap (λ (p : PointId). p.0) e)
 another n m differ (suc k, within, e) = absurd (omega (arith, within))
 
 pub returns-clause-head : goal.returns-clause-head
-returns-clause-head c = record { heads = one _ (point 1) (first (point 1) []); merges = λ yes. absurd (cc yes) }
+returns-clause-head c = record { heads = one (point 1 ∷ []) (point 1) (first (point 1) []); merges = λ yes. absurd (cc yes) }
 
 pub returns-clause-more : goal.returns-clause-more
-returns-clause-more c = record { heads = one _ (point 1) (first (point 1) (point 2 ∷ [])); merges = λ yes. absurd (cc yes) }
+returns-clause-more c = record { heads = one (point 1 ∷ point 2 ∷ []) (point 1) (first (point 1) (point 2 ∷ [])); merges = λ yes. absurd (cc yes) }
 
 pub returns-clause-no_head : goal.returns-clause-no_head
 returns-clause-no_head c = λ has. another 3 1 (λ e. absurd (omega (arith, e))) (has.heads 0 (point 1) (omega arith))
 
 pub returns-clause-merged : goal.returns-clause-merged
-returns-clause-merged c = record { heads = one _ (point 1) (first (point 1) (point 3 ∷ [])); merges = λ yes. one _ (point 3) (second (point 3) (point 1)) }
+returns-clause-merged c = record { heads = one (point 1 ∷ point 3 ∷ []) (point 1) (first (point 1) (point 3 ∷ [])); merges = λ yes. one (point 1 ∷ point 3 ∷ []) (point 3) (second (point 3) (point 1)) }
 
 pub returns-clause-not_merged : goal.returns-clause-not_merged
 returns-clause-not_merged c = λ has. another 1 3 (λ e. absurd (omega (arith, e))) (has.merges refl 0 (point 3) (omega arith))
