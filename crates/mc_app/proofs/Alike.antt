@@ -282,3 +282,6 @@ alike laws before after words more a c (Ran ending) other asks too names still w
 alike laws before after words more a c (Demo printed) other asks too names still why left then = absurd (no_demo_analysis words a why.0 asks why.1)
 alike laws before after words more a c (Analysed results.TooLong) other asks too names still why left then = nothing_found (Analysed results.TooLong) other not_program (λ e. cc)
 alike laws before after words more a c (Analysed (results.Found found)) other asks too names still why left then = alike_found laws before after words more a c found other asks too names still why left then
+alike laws before after words more a c (Analysed (results.Tried f count text)) other asks too names still why left then =
+    let ends = alike_found laws before after words more a c (analysis.Alarms f count) other asks too names still (why.0, why.1, (why.2.0, why.2.1, why.2.2, why.2.3.0)) left then in
+    record { same = ends.same; early = ends.early }

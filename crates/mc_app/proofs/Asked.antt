@@ -139,6 +139,7 @@ good_analysis holds words (Demo text) a e why asks = absurd (no_demo_analysis wo
 good_analysis holds words (Analysed results.TooLong) a e why asks = cc
 good_analysis holds words (Analysed (results.Found (analysis.Safe f))) a e why asks = (f, refl)
 good_analysis holds words (Analysed (results.Found (analysis.Alarms f count))) a e why asks = cc
+good_analysis holds words (Analysed (results.Tried f count text)) a e why asks = cc
 good_analysis holds words (Analysed (results.Found (analysis.Paths document))) a e why asks = cc
 good_analysis holds words (Analysed (results.Found analysis.Unknown)) a e why asks = cc
 

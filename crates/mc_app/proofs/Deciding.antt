@@ -27,7 +27,7 @@ use Rattle.mc_app.specs.Statuses.{Decides, EndsBy, IsComplete, IsDecided}
 use Rattle.mc_app.specs.Words.Commands.{analyse_app}
 use Rattle.mc_app.specs.Words.Words.{Asks}
 use Rattle.mc_app.specs.declared.analysing.Analysed.{Analysed}
-use Rattle.mc_app.specs.declared.analysing.Analysed.TheVariants.{TooLong, Found}
+use Rattle.mc_app.specs.declared.analysing.Analysed.TheVariants.{TooLong, Found, Tried}
 use Rattle.mc_app.specs.declared.answer.Status.{Status}
 use Rattle.mc_app.specs.declared.answer.Status.TheVariants as statuses
 use Rattle.mc_app.specs.declared.words.words.Analyse.{Analyse}
@@ -64,6 +64,7 @@ module _ (closed : ClosedLowered) (start : List ℕ) (unit : UnitTree) (defs : L
       let real = why.3.1.1 in
       let closed_too = subst (λ (s : List ℕ). IsClosedUnit s unit defs) (sym e) is in
       λ safe. not_safe b.start.now unit defs why.0 why.3.0.alarms (some_alarm why.0 defs b.merge f count why.3.0) (real.closed no_merge closed_too) real.real (subst (λ (s : List ℕ). IsSafeUnit s unit defs) (sym e) safe)
+  decides b e no_merge (Tried f count text) why = decides b e no_merge (Found (Alarms f count)) why.0
   decides b e no_merge (Found (Paths document)) why = (why.0, document.items, subst (λ (s : List ℕ). IsGraphOf s unit defs why.0) e why.1, why.3.0)
   decides b e no_merge (Found Unknown) why =
       let graph = why.1 in

@@ -7,6 +7,7 @@ pub mod Printing
 pub mod Safe
 pub mod Real
 pub mod Whys
+pub mod Shown
 pub mod Alike
 pub mod Meaning
 pub mod Telling

@@ -6,6 +6,7 @@ use Rattle.mc_document.specs.Judge.Verdicts.{IsChain}
 use Rattle.mc_document.specs.declared.judge.verdict.Refusal.TheVariants.{EndsEarly}
 use Rattle.mc_document.specs.declared.judge.verdict.Verdict.TheVariants.{Safe, Alarms, Refused as Mistaken}
 use Rattle.mc_find.specs.declared.analysis.analysis.Analysis.TheVariants as analysis
+use Rattle.mc_find.specs.declared.analysis.analysis.Findings.{Findings}
 use Rattle.mc_flow.specs.declared.defs.rules.Def.{Def}
 use Rattle.mc_flow.specs.declared.graph.Flow.{Flow}
 use Rattle.mc_kernel.specs.Branches.{Path}
@@ -18,6 +19,7 @@ use Rattle.mc_load.specs.declared.inputs.refusal.Refusal.TheVariants as refusals
 use Rattle.mc_outside.specs.Outside.{AddsIfTold}
 use Rattle.mc_outside.specs.declared.outside.FileFault.{FileFault}
 use Rattle.mc_outside.specs.declared.outside.FileFault.TheVariants.{Failed, NoMemory}
+use Rattle.mc_app.specs.Analyses.{IsWhyFound}
 use Rattle.mc_app.specs.Alike.{AreJudgedAlike, IsLikeAnalysis}
 use Rattle.mc_app.specs.Answers.{AsksForSafety, IsRefusedFor, IsWhyWords, sources_of, status_of}
 use Rattle.mc_app.specs.Blocked.{FaultsComeBy}
@@ -25,14 +27,16 @@ use Rattle.mc_app.specs.Faults.{fault_status}
 use Rattle.mc_app.specs.Printing.{text_of}
 use Rattle.mc_app.specs.Real.{AreReal}
 use Rattle.mc_app.specs.Statuses.{AlarmsMean, AlarmsTell, IsComplete, IsReady, TellsFaults}
+use Rattle.mc_app.specs.Tried.{IsShown}
 use Rattle.mc_app.specs.Words.Commands.{analyse_app, check_app, run_app}
-use Rattle.mc_app.specs.Words.Words.{Asks}
+use Rattle.mc_app.specs.Words.Words.{Asks, AsksAnalyse}
 use Rattle.mc_app.specs.declared.analysing.Analysed.TheVariants as results
 use Rattle.mc_app.specs.declared.answer.Answer.{Answer}
 use Rattle.mc_app.specs.declared.answer.Answer.TheVariants.{Words, Refused, Checked, Ran, Analysed, Demo}
 use Rattle.mc_app.specs.declared.answer.Status.{Status}
 use Rattle.mc_app.specs.declared.answer.Status.TheVariants as statuses
 use Rattle.mc_app.specs.declared.checking.Checked.TheVariants.{TooLong, Judged}
+use Rattle.mc_app.specs.declared.words.words.Analyse.{Analyse}
 use Rattle.mc_app.specs.declared.words.words.Request.{Request}
 use Rattle.mc_app.specs.declared.words.words.Request.TheVariants as request
 use Rattle.mc_app.proofs.Alike.{Given, Laws, given, never, one_defs, one_unit}
@@ -103,6 +107,35 @@ told_by start other unit defs flow stuck count e graph counted some finds = reco
   finds = subst (λ (x : List ℕ). FaultsComeBy x unit defs flow stuck) e finds;
 }
 
+-- what an analysis means that has found alarms, whose report was printed as it was or with scripts
+analysis_tells : (holds : Holds) (words : List (List ℕ)) (old new : Option (List ℕ)) (b a : Analyse) (f : Findings) (count : ℕ) (shown : List ℕ) (unit : UnitTree) (defs : List Def) → AsksAnalyse words b → AsksAnalyse words a
+    → AreInputs holds (sources_of (request.Analyse b)) unit defs → IsWhyFound b unit defs (analysis.Alarms f count) → IsShown b.start.now unit defs f.report.items shown → AddsIfTold old shown new (Ok tt)
+    → (text definitions : List ℕ) → holds a.program.now ≡ Some text → holds a.definitions.now ≡ Some definitions
+    → (u : UnitTree) × (ds : List Def) × IsProgramHere a.start.now text u × AreDefinitions u ds definitions × AlarmsMean holds old new u ds (request.Analyse a)
+analysis_tells holds words old new b a f count shown unit defs by asks inputs found is adds text definitions h k =
+    let alarming = found.3.0 in
+    let same = same_sources words (request.Analyse b) (request.Analyse a) by asks in
+    let read = read_too holds (sources_of (request.Analyse b)) (sources_of (request.Analyse a)) unit defs text definitions same h k inputs in (
+      unit,
+      defs,
+      read.0,
+      read.1,
+      (
+        found.0,
+        alarming.chain.heads,
+        alarming.alarms,
+        f.report.items,
+        shown,
+        alarming.report,
+        subst (λ (s : List ℕ). IsShown s unit defs f.report.items shown) same.start is,
+        adds,
+        subst (λ (l : List Path). TellsFaults a.start.now unit defs l found.0) alarming.stuck_are
+            (told_by b.start.now a.start.now unit defs found.0 alarming.stuck count same.start found.1 alarming.counted alarming.some found.3.1.0),
+        subst (λ (m : Bool). AreReal a.start.now unit defs found.0 m alarming.alarms) (one_flag analyse_app words (codes "merge") b.merge a.merge by.merge asks.merge)
+            (subst (λ (s : List ℕ). AreReal s unit defs found.0 b.merge alarming.alarms) same.start found.3.1.1),
+      ),
+    )
+
 pub alarms_tell : (holds : Holds) (words : List (List ℕ)) (a : Answer) (old new : Option (List ℕ)) → IsWhyWords holds words a → AddsIfTold old (text_of a) new (Ok tt) → status_of a ≡ statuses.Alarm
     → AlarmsTell holds words old new
 alarms_tell holds words Words old new why adds e r asks wants text h definitions k = cc
@@ -146,30 +179,12 @@ alarms_tell holds words (Analysed (results.Found (analysis.Alarms f count))) old
 alarms_tell holds words (Analysed (results.Found (analysis.Alarms f count))) old new why adds e (request.Run r) asks wants text h definitions k = absurd wants
 alarms_tell holds words (Analysed (results.Found (analysis.Alarms f count))) old new why adds e (request.Demo n) asks wants text h definitions k = absurd wants
 alarms_tell holds words (Analysed (results.Found (analysis.Alarms f count))) old new why adds e (request.Analyse a) asks wants text h definitions k =
-    let b = why.0 in
-    let unit = why.2.0 in
-    let defs = why.2.1 in
-    let found = why.2.3 in
-    let alarming = found.3.0 in
-    let same = same_sources words (request.Analyse b) (request.Analyse a) why.1 asks in
-    let read = read_too holds (sources_of (request.Analyse b)) (sources_of (request.Analyse a)) unit defs text definitions same h k why.2.2 in (
-      unit,
-      defs,
-      read.0,
-      read.1,
-      (
-        found.0,
-        alarming.chain.heads,
-        alarming.alarms,
-        f.report.items,
-        alarming.report,
-        adds,
-        subst (λ (l : List Path). TellsFaults a.start.now unit defs l found.0) alarming.stuck_are
-            (told_by b.start.now a.start.now unit defs found.0 alarming.stuck count same.start found.1 alarming.counted alarming.some found.3.1.0),
-        subst (λ (m : Bool). AreReal a.start.now unit defs found.0 m alarming.alarms) (one_flag analyse_app words (codes "merge") b.merge a.merge why.1.merge asks.merge)
-            (subst (λ (s : List ℕ). AreReal s unit defs found.0 b.merge alarming.alarms) same.start found.3.1.1),
-      ),
-    )
+    analysis_tells holds words old new why.0 a f count f.report.items why.2.0 why.2.1 why.1 asks why.2.2 why.2.3 (inl refl) adds text definitions h k
+alarms_tell holds words (Analysed (results.Tried f count shown)) old new why adds e (request.Check c) asks wants text h definitions k = absurd (no_analysis words c why.0 asks why.1)
+alarms_tell holds words (Analysed (results.Tried f count shown)) old new why adds e (request.Run r) asks wants text h definitions k = absurd wants
+alarms_tell holds words (Analysed (results.Tried f count shown)) old new why adds e (request.Demo n) asks wants text h definitions k = absurd wants
+alarms_tell holds words (Analysed (results.Tried f count shown)) old new why adds e (request.Analyse a) asks wants text h definitions k =
+    analysis_tells holds words old new why.0 a f count shown.items why.2.0 why.2.1 why.1 asks why.2.2 why.2.3.0 (inr why.2.3.1) adds text definitions h k
 
 -- the status of a fault is none of an alarm
 pub fault_tells : (holds : Holds) (words : List (List ℕ)) (old new : Option (List ℕ)) (fault : FileFault) (s : Status) → s ≡ fault_status fault → s ≡ statuses.Alarm → AlarmsTell holds words old new

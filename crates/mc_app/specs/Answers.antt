@@ -106,6 +106,7 @@ abbrev pub analysed_status : Results → Status
 analysed_status results.TooLong = statuses.Program
 analysed_status (results.Found (analysis.Safe f)) = statuses.Good
 analysed_status (results.Found (analysis.Alarms f count)) = statuses.Alarm
+analysed_status (results.Tried f count text) = statuses.Alarm
 analysed_status (results.Found (analysis.Paths document)) = statuses.Limit
 analysed_status (results.Found analysis.Unknown) = statuses.Program
 
@@ -137,6 +138,7 @@ abbrev pub analysed_document : Results → Option (List ℕ)
 analysed_document results.TooLong = None
 analysed_document (results.Found (analysis.Safe f)) = Some f.document.items
 analysed_document (results.Found (analysis.Alarms f count)) = Some f.document.items
+analysed_document (results.Tried f count text) = Some f.document.items
 analysed_document (results.Found (analysis.Paths document)) = Some document.items
 analysed_document (results.Found analysis.Unknown) = None
 

@@ -86,6 +86,7 @@ abbrev pub analysed_text : Results → List ℕ
 analysed_text results.TooLong = line (codes "program: TooLong")
 analysed_text (results.Found (analysis.Safe f)) = f.report.items
 analysed_text (results.Found (analysis.Alarms f count)) = f.report.items
+analysed_text (results.Tried f count text) = text.items
 analysed_text (results.Found (analysis.Paths document)) = line (codes "limit: Paths")
 analysed_text (results.Found analysis.Unknown) = line (codes "program: NotYet")
 

@@ -28,6 +28,7 @@ use Rattle.mc_app.specs.Blocked.{FaultsComeBy}
 use Rattle.mc_app.specs.Checks.{IsSafeUnit, IsWhyChecked}
 use Rattle.mc_app.specs.Real.{AreReal, IsClosedUnit}
 use Rattle.mc_app.specs.Runs.{IsWhyRan}
+use Rattle.mc_app.specs.Tried.{IsShown}
 use Rattle.mc_app.specs.Words.Words.{Asks}
 
 -- ---- alarms
@@ -39,7 +40,7 @@ pub record TellsFaults (start : List ℕ) (unit : UnitTree) (defs : List Def) (s
   pub finds : FaultsComeBy start unit defs flow stuck
 
 -- these are the blocked branches of the document that a check was given, or those whose report an analysis has printed: of them,
--- those with answers of malloc are real
+-- those with answers of malloc are real, and where the line of a script is printed behind an alarm's, the program faults there on it
 abbrev pub AlarmsMean : Holds → (old new : Option (List ℕ)) → UnitTree → List Def → Request → Type 0
 AlarmsMean holds old new unit defs (request.Check c) =
     WhereTold (holds c.document.now)
@@ -47,8 +48,8 @@ AlarmsMean holds old new unit defs (request.Check c) =
 AlarmsMean holds old new unit defs (request.Run r) = Unit {0}
 AlarmsMean holds old new unit defs (request.Demo n) = Unit {0}
 AlarmsMean holds old new unit defs (request.Analyse a) =
-    (flow : Flow) × (heads : List WrittenHead) × (alarms : List MarkedAlarm) × (report : List ℕ)
-    × IsChainReport flow defs heads alarms report × AddsIfTold old report new (Ok tt)
+    (flow : Flow) × (heads : List WrittenHead) × (alarms : List MarkedAlarm) × (report : List ℕ) × (text : List ℕ)
+    × IsChainReport flow defs heads alarms report × IsShown a.start.now unit defs report text × AddsIfTold old text new (Ok tt)
     × TellsFaults a.start.now unit defs (map (λ x. x.0) alarms) flow × AreReal a.start.now unit defs flow a.merge alarms
 
 -- the words ask for a check or an analysis, and where it is known what the files of its program and definitions hold, they are a

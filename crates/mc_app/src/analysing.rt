@@ -1,6 +1,5 @@
 // Analyses a program.
 ghost use Rattle.std.specs.Prelude.{◌≡◌, List, IfOk, ℕ};
-ghost use Rattle.mc_find.specs.declared.analysis.analysis.Findings.{Findings};
 ghost use Rattle.mc_find.specs.declared.analysis.analysis.Analysis.TheVariants.{Safe};
 ghost use Rattle.mc_c_syntax.specs.Ast.Views.{unit_of};
 ghost use Rattle.mc_load.specs.Inputs.Texts.{IsWellFormed};
@@ -12,11 +11,12 @@ ghost use Rattle.mc_app.specs.Answers.{IsWhyWords, sources_of};
 ghost use Rattle.mc_app.specs.Checks.{IsSafeUnit, IsSafeWhereTold};
 
 use crate::Answer;
+use crate::tried::with_scripts;
 use crate::words::Analyse;
 use mc_c_check::Bound;
 use mc_c_grammar::places::ascending_places_differ;
 use mc_exact::{closed_alarms_are_marked, marks_are_exact};
-use mc_find::analysis::{Analysis, Settings, analyse};
+use mc_find::analysis::{Analysis, Findings, Settings, analyse};
 use mc_kernel::{certificates_are_safe, last_pass_finds_faults};
 use mc_load::inputs::{Sources, read};
 use mc_load::lowered::graph;
@@ -33,6 +33,8 @@ pub enum Analysed {
     /// The flow graph of the program has more than 10,000 points.
     TooLong,
     Found(Analysis),
+    /// Alarms, so many, and their report with scripts that were found by running.
+    Tried(Findings, u64, Vec<u8>),
 }
 
 // How the words want a flow graph to be analysed.
@@ -77,6 +79,18 @@ fn analyse_bound(alloc: Global, names: Analyse<'_>, bound: &Bound) -> Result<Ana
     }
 }
 
+// Analyses a program with its definitions, and tries runs for its alarms.
+fn analyse_and_try(alloc: Global, names: Analyse<'_>, bound: &Bound) -> Result<Analysed, AllocError>
+    requires well_formed { IsWellFormed names.start.now (unit_of bound.now.typed.unit) }
+    requires start { bound.now.typed.entry ≡ names.start.now }
+    ensures why { IfOk result (λ found. IsWhyAnalysed names.entry (unit_of bound.now.typed.unit) bound.now.defs found) }
+    ensures safe { IfOk result (λ found. (f : Findings) → found ≡ Analysed.Found (Safe f)
+        → IsSafeUnit names.entry.start.now (unit_of bound.now.typed.unit) bound.now.defs) }
+{
+    let found = analyse_bound(alloc, names, bound)?;
+    with_scripts(alloc, names, bound, found)
+}
+
 /// Reads the program and the definitions that a command names, and analyses the program.
 pub fn answer_analysis<F: Files>(
     alloc: Global,
@@ -97,7 +111,7 @@ pub fn answer_analysis<F: Files>(
     match read(alloc, files, sources)? {
         Err(refusal) => Ok(Answer::Refused(refusal)),
         Ok(bound) => {
-            let found = analyse_bound(alloc, names, &bound)?;
+            let found = analyse_and_try(alloc, names, &bound)?;
             Ok(Answer::Analysed(found))
         }
     }

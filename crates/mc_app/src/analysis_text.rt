@@ -21,6 +21,7 @@ impl Analysed {
             Analysed::Found(Analysis::Alarms(findings, _)) => {
                 out.extend_from_slice(&findings.report)?;
             }
+            Analysed::Tried(_, _, text) => out.extend_from_slice(text)?,
             Analysed::Found(Analysis::Paths(_)) => out.extend_from_slice(b"limit: Paths\n")?,
             Analysed::Found(Analysis::Unknown) => out.extend_from_slice(b"program: NotYet\n")?,
         }
@@ -35,6 +36,7 @@ impl Analysed {
             Analysed::TooLong => None,
             Analysed::Found(Analysis::Safe(findings)) => Some(findings.document.as_slice()),
             Analysed::Found(Analysis::Alarms(findings, _)) => Some(findings.document.as_slice()),
+            Analysed::Tried(findings, _, _) => Some(findings.document.as_slice()),
             Analysed::Found(Analysis::Paths(document)) => Some(document.as_slice()),
             Analysed::Found(Analysis::Unknown) => None,
         }
@@ -48,6 +50,7 @@ impl Analysed {
             Analysed::TooLong => Status::Program,
             Analysed::Found(Analysis::Safe(_)) => Status::Good,
             Analysed::Found(Analysis::Alarms(_, _)) => Status::Alarm,
+            Analysed::Tried(_, _, _) => Status::Alarm,
             Analysed::Found(Analysis::Paths(_)) => Status::Limit,
             Analysed::Found(Analysis::Unknown) => Status::Program,
         }

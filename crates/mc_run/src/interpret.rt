@@ -5,5 +5,5 @@ mod laws;
 mod running;
 
 pub use ending::Ending;
-pub use laws::faults_are_answered;
+pub use laws::{faults_are_answered, faults_are_one};
 pub use running::interpret;

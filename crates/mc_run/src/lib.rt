@@ -14,6 +14,7 @@ mod running;
 mod shapes;
 mod step;
 
-pub use machine::Program;
-pub use outcome::Outcome;
+pub use machine::{Machine, Program};
+pub use outcome::{End, Outcome, Stepped};
 pub use running::run;
+pub use step::make;

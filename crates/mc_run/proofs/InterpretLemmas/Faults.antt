@@ -47,7 +47,7 @@ module _ {C : Type 0} (S : Machine C Choice) (determined : IsDetermined S) (kind
       (suc h.0, (let le = h.1 in omega arith), (h.2.0, h.2.1, (d, rest, step, h.2.2), h.2.3))
 
   -- up to its fault it makes a step wherever it has come to
-  steps : (n m : ℕ) (c d : C) (choices left : List Choice) → Leads S n c choices d left → ComesTo S (suc m) c choices (fault kind place) → MakesStep S d left
+  pub steps : (n m : ℕ) (c d : C) (choices left : List Choice) → Leads S n c choices d left → ComesTo S (suc m) c choices (fault kind place) → MakesStep S d left
   steps zero zero c d choices left (same, all) (e, rest, (to, of), step) = (last (fault kind place), moved (last (fault kind place)) (sym to ∙ same) (sym of ∙ all) step, λ w. absurd (cc))
   steps zero (suc m) c d choices left (same, all) (e, rest, (x, more, first, later), step) = (next x more, moved (next x more) same all first, λ w. absurd (cc))
   steps (suc n) zero c d choices left (x, more, first, later) (e, rest, (to, of), step) =
@@ -60,7 +60,7 @@ module _ {C : Type 0} (S : Machine C Choice) (determined : IsDetermined S) (kind
       steps n m x d more left later (e, rest, led m e rest to of on, step)
 
   -- and it makes no step more
-  past : (n m : ℕ) (c d : C) (choices left : List Choice) → Leads S n c choices d left → ComesTo S (suc m) c choices (fault kind place) → suc m ≤ n → ⊥
+  pub past : (n m : ℕ) (c d : C) (choices left : List Choice) → Leads S n c choices d left → ComesTo S (suc m) c choices (fault kind place) → suc m ≤ n → ⊥
   past zero m c d choices left leads to le = omega arith
   past (suc n) zero c d choices left (x, more, first, later) (e, rest, (to, of), step) le =
       let clash : next x more ≡ last (fault kind place) = determined c choices (next x more) (last (fault kind place)) first (moved (last (fault kind place)) (sym to) (sym of) step) in

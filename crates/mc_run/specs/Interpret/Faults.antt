@@ -24,3 +24,11 @@ FaultsAreAnswered =
     → Reaches (Step (program_of unit defs)) n (start (program_of unit defs) f) (map malloc answers) (fault kind place)
     → n ≤ fuel → Takes (struct_infos unit) script (map malloc answers) []
     → ProgramRuns unit entry defs script fuel ending → ending ≡ Fault kind place
+
+-- where a well typed program comes to a fault with a script, it comes to nothing else with it, with as much fuel or more
+abbrev pub FaultsAreOne : Type 0
+FaultsAreOne =
+    (unit : UnitTree) (entry : List ℕ) (defs : List Def) (script : List (List ℕ)) (n fuel : ℕ) (kind : FaultKind) (place : Place)
+    (ending : Ending)
+    → IsWellTyped unit entry → n ≤ fuel → ProgramRuns unit entry defs script n (Fault kind place)
+    → ProgramRuns unit entry defs script fuel ending → ending ≡ Fault kind place

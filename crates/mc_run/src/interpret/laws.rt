@@ -1,5 +1,5 @@
 // Laws of what programs come to.
-ghost use Rattle.mc_run.specs.Interpret.Faults.{FaultsAreAnswered};
+ghost use Rattle.mc_run.specs.Interpret.Faults.{FaultsAreAnswered, FaultsAreOne};
 
 use mc_semantics::steps_are_determined;
 use mc_semantics::waiting::{programs_come_to_one_end, programs_step_end_or_wait};
@@ -8,6 +8,15 @@ use mc_semantics::waiting::{programs_come_to_one_end, programs_step_end_or_wait}
 /// for a script whose lines mean these answers.
 pub fn faults_are_answered()
     ensures { FaultsAreAnswered }
+{
+    steps_are_determined();
+    programs_come_to_one_end();
+    programs_step_end_or_wait();
+}
+
+/// Where a well typed program comes to a fault with a script, it comes to nothing else with it, with as much fuel or more.
+pub fn faults_are_one()
+    ensures { FaultsAreOne }
 {
     steps_are_determined();
     programs_come_to_one_end();
