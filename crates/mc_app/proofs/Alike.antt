@@ -145,26 +145,26 @@ front_goes_on k well flow defs (t ∷ texts) lines right spelled front =
     )
 
 -- the verdict on the document of what was found
-verdict_is : Laws → (flow : Flow) (defs : List Def) (found : Analysis) (document : List ℕ) (v : Verdict) → IsValid flow defs → IsAnalysis flow defs found
+verdict_is : Laws → (flow : Flow) (defs : List Def) (merge : Bool) (found : Analysis) (document : List ℕ) (v : Verdict) → IsValid flow defs → IsAnalysis flow defs merge found
     → analysed_document (results.Found found) ≡ Some document → IsVerdictOn flow defs document v → AlikeFound found (Judged v)
-verdict_is laws flow defs (analysis.Safe f) document v valid proved is said =
+verdict_is laws flow defs merge (analysis.Safe f) document v valid proved is said =
     let document_is : document ≡ f.document.items = cc in
     let certificate : IsCertificate flow defs f.document.items = record { lines = proved.lines; spelled = proved.spelled; valid = proved.valid } in
     let safe = said.0.safe.1 (subst (λ (t : List ℕ). IsCertificate flow defs t) (sym document_is) certificate) in
     ap (λ (x : Verdict). checked_status (Judged x)) safe
-verdict_is laws flow defs (analysis.Alarms f count) document v valid found is said =
+verdict_is laws flow defs merge (analysis.Alarms f count) document v valid found is said =
     let document_is : document ≡ f.document.items = cc in
     let chain : IsChain flow defs f.document.items found.stuck = record { lines = found.lines; spelled = found.spelled; short = found.chain } in
     let alarms = (said.0.alarms count).1 (found.stuck, subst (λ (t : List ℕ). IsChain flow defs t found.stuck) (sym document_is) chain, found.counted, found.some) in
     ap (λ (x : Verdict). checked_status (Judged x)) alarms
-verdict_is laws flow defs (analysis.Paths text) document v valid crowded is said =
+verdict_is laws flow defs merge (analysis.Paths text) document v valid crowded is said =
     let document_is : document ≡ text.items = cc in
     let known = laws.judged flow defs valid in
     let spelled = subst (λ (t : List ℕ). SpellAll (lines_of t) crowded.lines) (sym document_is) crowded.spelled in
     let goes = front_goes_on known.0 known.1 flow defs (lines_of document) crowded.lines known.2 spelled crowded.crowded.front in
     let early = laws.early known.0 known.1 flow defs (lines_of document) v (said.1 known.0 known.1 known.2) goes in
     ap (λ (x : Verdict). Judged x) early
-verdict_is laws flow defs analysis.Unknown document v valid found is said = tt
+verdict_is laws flow defs merge analysis.Unknown document v valid found is said = tt
 
 not_program : IsFoundStatus statuses.Program → ⊥
 not_program (inl e) = cc
@@ -191,7 +191,7 @@ end_alike (analysis.Alarms f count) ending is = record { same = λ good. is; ear
 end_alike (analysis.Paths text) ending is = record { same = λ good. absurd (not_limit good); early = λ e. ap (λ (x : Found). Checked x) is }
 end_alike analysis.Unknown ending is = record { same = λ good. absurd (not_program good); early = λ e. absurd cc }
 
-module _ (laws : Laws) (after : Holds) (more : List (List ℕ)) (c : Check) (asks : AsksCheck more c) (text definitions : List ℕ) (told : after c.program.now ≡ Some text) (defined : after c.definitions.now ≡ Some definitions) (unit : UnitTree) (defs : List Def) (here : Given c.start.now text definitions unit defs) (flow : Flow) (graph : IsGraphOf c.start.now unit defs flow) (short : length flow.points ≤ 10000) (found : Analysis) (is_found : IsAnalysis flow defs found) (left : after c.document.now ≡ analysed_document (results.Found found)) where
+module _ (laws : Laws) (after : Holds) (more : List (List ℕ)) (c : Check) (asks : AsksCheck more c) (text definitions : List ℕ) (told : after c.program.now ≡ Some text) (defined : after c.definitions.now ≡ Some definitions) (unit : UnitTree) (defs : List Def) (here : Given c.start.now text definitions unit defs) (flow : Flow) (graph : IsGraphOf c.start.now unit defs flow) (short : length flow.points ≤ 10000) (merge : Bool) (found : Analysis) (is_found : IsAnalysis flow defs merge found) (left : after c.document.now ≡ analysed_document (results.Found found)) where
   -- whatever reads these words names the same
   program_too : (d : Check) → AsksCheck more d → d.program.now ≡ c.program.now
   program_too d too = one_word check_app more _ d.program.now c.program.now too.program asks.program
@@ -220,7 +220,7 @@ module _ (laws : Laws) (after : Holds) (more : List (List ℕ)) (c : Check) (ask
       let flow_is = one_flow laws c.start.now text definitions unit defs here flow why.flow graph graph_too in
       let held : after d.document.now ≡ Some document = ap after (document_too d too) ∙ left ∙ some in
       let said = (why.told document held).0 in
-      verdict_is laws flow defs found document v (subst (λ (f : Flow). IsValid f defs) flow_is why.valid) is_found some (subst (λ (f : Flow). IsVerdictOn f defs document v) flow_is said)
+      verdict_is laws flow defs merge found document v (subst (λ (f : Flow). IsValid f defs) flow_is why.valid) is_found some (subst (λ (f : Flow). IsVerdictOn f defs document v) flow_is said)
 
   judged : (d : Check) → AsksCheck more d → (ending : Found) → IsWhyChecked after d unit defs ending → AlikeFound found ending
   judged d too TooLong why =
@@ -270,7 +270,7 @@ alike_found laws before after words more a c found other asks too names still wh
     let here = given before (sources_of (request.Analyse b)) unit defs c.start.now a.program.now a.definitions.now still.text still.definitions program_is definitions_are start_is
     still.program_before still.definitions_before why.2.2 in
     answers laws after more c too still.text still.definitions (ap after names.program ∙ still.program_after) (ap after names.definitions ∙ still.definitions_after) unit defs here what.0
-    (subst (λ (s : List ℕ). IsGraphOf s unit defs what.0) start_is what.1) what.2 found what.3.0 left other then
+    (subst (λ (s : List ℕ). IsGraphOf s unit defs what.0) start_is what.1) what.2 b.merge found what.3.0 left other then
 
 pub alike : Laws → AreJudgedAlike
 alike laws before after words more a c Words other asks too names still why left then = absurd (why (request.Analyse a) asks)

@@ -1,5 +1,5 @@
 -- What words ask for names the same files, however it is written down.
-use Rattle.std.proofs.Common.{◌≡◌, ◌∙◌, ◌∷◌, ℕ, List, Option, None, Some, codes, refl, sym, subst}
+use Rattle.std.proofs.Common.{◌≡◌, ◌∙◌, ◌∷◌, ℕ, Bool, true, false, List, Option, None, Some, codes, refl, sym, subst}
 use Rattle.clap.specs.Words.{App}
 use Rattle.mc_app.specs.declared.words.words.Analyse.{Analyse}
 use Rattle.mc_app.specs.declared.words.words.Check.{Check}
@@ -7,7 +7,7 @@ use Rattle.mc_app.specs.declared.words.words.Request.{Request}
 use Rattle.mc_app.specs.declared.words.words.Request.TheVariants as request
 use Rattle.mc_app.specs.declared.words.words.Run.{Run}
 use Rattle.mc_app.specs.Words.Commands.{analyse_app, check_app}
-use Rattle.mc_app.specs.Words.Words.{Asks, AsksAnalyse, AsksCheck, AsksDemo, AsksRun, Reads}
+use Rattle.mc_app.specs.Words.Words.{Asks, AsksAnalyse, AsksCheck, AsksDemo, AsksRun, Reads, ReadsFlag, flag_text}
 use Rattle.mc_outside.specs.Outside.{WhereTold}
 use Rattle.mc_find.specs.declared.analysis.analysis.Analysis.TheVariants as analysis
 use Rattle.mc_find.specs.declared.analysis.analysis.Findings.{Findings}
@@ -25,6 +25,16 @@ use Rattle.mc_app.specs.Checks.{IsSafe, IsSafeWhereTold}
 
 pub one_word : (app : App) (words : List (List ℕ)) (id v w : List ℕ) → Reads app words id v → Reads app words id w → v ≡ w
 one_word app words id v w h k = let e : Some v ≡ Some w = sym h ∙ k in cc
+
+-- whether a flag is there
+one_flag_text : (is also : Bool) → flag_text is ≡ flag_text also → is ≡ also
+one_flag_text true true e = refl
+one_flag_text true false e = absurd cc
+one_flag_text false true e = absurd cc
+one_flag_text false false e = refl
+
+pub one_flag : (app : App) (words : List (List ℕ)) (id : List ℕ) (is also : Bool) → ReadsFlag app words id is → ReadsFlag app words id also → is ≡ also
+one_flag app words id is also h k = let e : Some (flag_text is) ≡ Some (flag_text also) = sym h ∙ k in one_flag_text is also cc
 
 abbrev SafeFor : Holds → (program definitions start : List ℕ) → Type 0
 SafeFor holds p d s = WhereTold (holds p) (λ text. WhereTold (holds d) (λ definitions. IsSafe s text definitions))

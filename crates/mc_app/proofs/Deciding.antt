@@ -1,5 +1,5 @@
 -- An analysis decides a closed program.
-use Rattle.std.proofs.Common.{◌≡◌, ◌∙◌, ◌<◌, ◌⊎◌, ℕ, List, [], ◌∷◌, Some, None, inl, inr, length, map, sym, ap, subst, arith}
+use Rattle.std.proofs.Common.{◌≡◌, ◌∙◌, ◌<◌, ◌⊎◌, ℕ, Bool, false, List, [], ◌∷◌, Some, None, codes, inl, inr, length, map, sym, ap, subst, arith}
 use Rattle.std.specs.List.{AllByRecursion}
 use Rattle.std.proofs.lemmas.List.{length-map}
 use Rattle.mc_c_syntax.specs.Ast.Trees.{FunctionTree, UnitTree}
@@ -33,7 +33,7 @@ use Rattle.mc_app.specs.declared.answer.Status.TheVariants as statuses
 use Rattle.mc_app.specs.declared.words.words.Analyse.{Analyse}
 use Rattle.mc_app.specs.declared.words.words.Request.{Request}
 use Rattle.mc_app.specs.declared.words.words.Request.TheVariants as request
-use Rattle.mc_app.proofs.Asked.{no_analysis, no_demo_analysis, no_other, one_word}
+use Rattle.mc_app.proofs.Asked.{no_analysis, no_demo_analysis, no_other, one_flag, one_word}
 use Rattle.mc_app.proofs.Real.{ClosedLowered}
 
 -- a program with an alarm that is real is not safe
@@ -48,8 +48,8 @@ not_safe start unit defs flow ((b, Some answers) ∷ alarms) some marked real sa
     let none = subst (λ (f : FunctionTree). IsSafeProgram (program_of unit defs) f) same safe.2 in
     none faults.steps (map malloc answers) faults.kind faults.point.place faults.faults
 
-some_alarm : (flow : Flow) (defs : List Def) (f : Findings) (count : ℕ) (found : HasAlarms flow defs f count) → 0 < length found.alarms
-some_alarm flow defs f count found =
+some_alarm : (flow : Flow) (defs : List Def) (merge : Bool) (f : Findings) (count : ℕ) (found : HasAlarms flow defs merge f count) → 0 < length found.alarms
+some_alarm flow defs merge f count found =
     let counted = found.counted in
     let some = found.some in
     let mapped : length found.stuck ≡ length found.alarms = ap (λ (l : List Path). length l) found.stuck_are ∙ length-map found.alarms (λ (a : Alarm). a.0) in
@@ -57,23 +57,23 @@ some_alarm flow defs f count found =
 
 module _ (closed : ClosedLowered) (start : List ℕ) (unit : UnitTree) (defs : List Def) (is : IsClosedUnit start unit defs) where
   -- what is found of a closed program
-  pub decides : (b : Analyse) → b.start.now ≡ start → (found : Analysed) → IsWhyAnalysed b unit defs found → Decides start unit defs (analysed_status found)
-  decides b e TooLong why = subst (λ (s : List ℕ). IsLong s unit defs) e why
-  decides b e (Found (Safe f)) why = subst (λ (s : List ℕ). IsSafeUnit s unit defs) e why.3.1
-  decides b e (Found (Alarms f count)) why =
+  pub decides : (b : Analyse) → b.start.now ≡ start → b.merge ≡ false → (found : Analysed) → IsWhyAnalysed b unit defs found → Decides start unit defs (analysed_status found)
+  decides b e no_merge TooLong why = subst (λ (s : List ℕ). IsLong s unit defs) e why
+  decides b e no_merge (Found (Safe f)) why = subst (λ (s : List ℕ). IsSafeUnit s unit defs) e why.3.1
+  decides b e no_merge (Found (Alarms f count)) why =
       let real = why.3.1.1 in
       let closed_too = subst (λ (s : List ℕ). IsClosedUnit s unit defs) (sym e) is in
-      λ safe. not_safe b.start.now unit defs why.0 why.3.0.alarms (some_alarm why.0 defs f count why.3.0) (real.closed closed_too) real.real (subst (λ (s : List ℕ). IsSafeUnit s unit defs) (sym e) safe)
-  decides b e (Found (Paths document)) why = (why.0, document.items, subst (λ (s : List ℕ). IsGraphOf s unit defs why.0) e why.1, why.3.0)
-  decides b e (Found Unknown) why =
+      λ safe. not_safe b.start.now unit defs why.0 why.3.0.alarms (some_alarm why.0 defs b.merge f count why.3.0) (real.closed no_merge closed_too) real.real (subst (λ (s : List ℕ). IsSafeUnit s unit defs) (sym e) safe)
+  decides b e no_merge (Found (Paths document)) why = (why.0, document.items, subst (λ (s : List ℕ). IsGraphOf s unit defs why.0) e why.1, why.3.0)
+  decides b e no_merge (Found Unknown) why =
       let graph = why.1 in
       let closed_too = subst (λ (s : List ℕ). IsClosedUnit s unit defs) (sym e) is in
       let there = subst (λ (p : Program). IsClosed p) (sym graph.program) closed_too in
       let loops = subst (λ (f : Flow). IsClosedFlow f) graph.is_its (closed graph.graph graph.function graph.out graph.count there graph.lowered) in
-      absurd (why.3.0 loops.no_loops)
+      absurd (why.3.0 (loops.no_loops, no_merge))
 
 pub decided : ClosedLowered → (holds : Holds) (words : List (List ℕ)) (s : Status) → IsComplete holds words s → IsDecided holds words s
-decided closed holds words s complete a unit defs ready is = by (complete (request.Analyse a) unit defs ready)
+decided closed holds words s complete a unit defs ready no_merge is = by (complete (request.Analyse a) unit defs ready)
   where
     start : List ℕ
     start = a.start.now
@@ -84,7 +84,8 @@ decided closed holds words s complete a unit defs ready is = by (complete (reque
     by_command (request.Demo n) asks ends = absurd (no_demo_analysis words a n ready.asks asks)
     by_command (request.Analyse b) asks ends =
         let same = one_word analyse_app words _ b.start.now a.start.now asks.start ready.asks.start in
-        subst (λ (x : Status). Decides start unit defs x) (sym ends.2) (decides closed start unit defs is b same ends.0 ends.1)
+        let merges : b.merge ≡ false = one_flag analyse_app words (codes "merge") b.merge a.merge asks.merge ready.asks.merge ∙ no_merge in
+        subst (λ (x : Status). Decides start unit defs x) (sym ends.2) (decides closed start unit defs is b same merges ends.0 ends.1)
 
     by : (s ≡ statuses.Device) ⊎ ((s ≡ statuses.Memory) ⊎ ((q : Request) × Asks words q × EndsBy holds q unit defs s)) → Decides start unit defs s
     by (inl e) = subst (λ (x : Status). Decides start unit defs x) (sym e) tt
@@ -92,5 +93,5 @@ decided closed holds words s complete a unit defs ready is = by (complete (reque
     by (inr (inr ends)) = by_command ends.0 ends.1 ends.2
 
 pub fault_decides : (holds : Holds) (words : List (List ℕ)) (fault : FileFault) (s : Status) → s ≡ fault_status fault → IsDecided holds words s
-fault_decides holds words Failed s e a unit defs ready is = subst (λ (x : Status). Decides a.start.now unit defs x) (sym e) tt
-fault_decides holds words NoMemory s e a unit defs ready is = subst (λ (x : Status). Decides a.start.now unit defs x) (sym e) tt
+fault_decides holds words Failed s e a unit defs ready no_merge is = subst (λ (x : Status). Decides a.start.now unit defs x) (sym e) tt
+fault_decides holds words NoMemory s e a unit defs ready no_merge is = subst (λ (x : Status). Decides a.start.now unit defs x) (sym e) tt

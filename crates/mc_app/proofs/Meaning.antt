@@ -1,5 +1,5 @@
 -- What verdicts and findings mean for the runs of a program.
-use Rattle.std.proofs.Common.{◌≡◌, ℕ, List, [], refl}
+use Rattle.std.proofs.Common.{◌≡◌, ℕ, Bool, List, [], refl, subst}
 use Rattle.mc_c_syntax.specs.Ast.Trees.{UnitTree}
 use Rattle.mc_document.specs.declared.judge.verdict.Verdict.{Verdict}
 use Rattle.mc_document.specs.declared.judge.verdict.Verdict.TheVariants as verdict
@@ -27,11 +27,16 @@ module _ (start : List ℕ) (unit : UnitTree) (defs : List Def) (flow : Flow) (c
       (chain.0, chain.1, chain.2, comes chain.0 chain.3)
   verdict_means document (verdict.Refused cause) safe found = tt
 
-  pub found_means : LastPassFindsFaults → IsValid flow defs → ((f : Findings) (count : ℕ) → (alarming : HasAlarms flow defs f count) → AreReal start unit defs flow alarming.alarms) → (found : Analysis) → ((f : Findings) → found ≡ Safe f → IsSafeUnit start unit defs) → (is : IsAnalysis flow defs found)
-      → analyses.MeansForRuns start unit defs flow found is
-  found_means faults valid real (Safe f) safe is = safe f refl
-  found_means faults valid real (Alarms f count) safe is =
+  pub found_means : LastPassFindsFaults → IsValid flow defs → (merge : Bool) → ((f : Findings) (count : ℕ) → (alarming : HasAlarms flow defs merge f count) → AreReal start unit defs flow merge alarming.alarms) → (found : Analysis) → ((f : Findings) → found ≡ Safe f → IsSafeUnit start unit defs) → (is : IsAnalysis flow defs merge found)
+      → analyses.MeansForRuns start unit defs flow merge found is
+  found_means faults valid merge real (Safe f) safe is = safe f refl
+  found_means faults valid merge real (Alarms f count) safe is =
       let chain = is.chain in
       (comes is.stuck (faults flow defs chain.cuts (states_of chain.heads) chain.rules is.stuck valid chain.pass), real f count is)
-  found_means faults valid real (Paths document) safe is = tt
-  found_means faults valid real Unknown safe is = tt
+  found_means faults valid merge real (Paths document) safe is = tt
+  found_means faults valid merge real Unknown safe is = tt
+
+-- what is found, in the words of the command
+pub found_here : (flow : Flow) (defs ds : List Def) (merge m : Bool) (found : Analysis) → ds ≡ defs → m ≡ merge → IsAnalysis flow ds m found → IsAnalysis flow defs merge found
+found_here flow defs ds merge m found same also is =
+    subst (λ (x : Bool). IsAnalysis flow defs x found) also (subst (λ (x : List Def). IsAnalysis flow x m found) same is)

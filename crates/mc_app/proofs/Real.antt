@@ -1,5 +1,5 @@
 -- The alarms of a report that carry answers of malloc are real, and those of closed programs all carry some.
-use Rattle.std.proofs.Common.{◌≡◌, ◌∙◌, ◌≤◌, ℕ, List, [], ◌∷◌, Some, None, length, map, refl, sym, subst}
+use Rattle.std.proofs.Common.{◌≡◌, ◌∙◌, ◌≤◌, ℕ, Bool, true, false, List, [], ◌∷◌, Some, None, length, map, refl, sym, subst}
 use Rattle.std.proofs.lemmas.List.Elements.{All-weaker}
 use Rattle.std.specs.List.{AllByRecursion}
 use Rattle.mc_base.specs.declared.ids.PointId.{PointId}
@@ -16,7 +16,7 @@ use Rattle.mc_lower_laws.specs.Closed.{IsClosed, IsClosedCode, IsClosedFlow}
 use Rattle.mc_kernel.specs.Branches.{Path}
 use Rattle.mc_exact.specs.Marks.{Alarm, ClosedAlarmsAreMarked, IsRightAlarm, MarksAreExact, unmarked}
 use Rattle.mc_exact.specs.Tracks.{AsksMallocAlone, IsClosed as IsClosedInstr}
-use Rattle.mc_find.specs.Analysis.Findings.{HasAlarms}
+use Rattle.mc_find.specs.Analysis.Findings.{HasAlarms, IsFollowedWhole}
 use Rattle.mc_find.specs.declared.analysis.analysis.Findings.{Findings}
 use Rattle.mc_load.specs.Inputs.Texts.{IsWellFormed}
 use Rattle.mc_load.specs.Lowered.Graphs.{IsGraphOf}
@@ -82,13 +82,16 @@ module _ (laws : RealLaws) (start : List ℕ) (unit : UnitTree) (defs : List Def
   asks : IsClosedFlow flow → AsksMallocAlone flow
   asks closed = All-weaker (λ (x : Point). IsClosedCode x.code) (λ (x : Point). IsClosedInstr x.code) (λ x h. closed_code x.code h) flow.points closed.points
 
-  pub are_real : (f : Findings) (count : ℕ) → (found : HasAlarms flow defs f count) → AreReal start unit defs flow found.alarms
-  are_real f count found = record {
-    real = by_heads flow.heads refl;
-    closed = λ closed. let c = closed_flow closed in laws.marked flow defs found.lines found.alarms (asks c) (found.marked c.no_loops);
+  pub are_real : (merge : Bool) (f : Findings) (count : ℕ) → (found : HasAlarms flow defs merge f count) → AreReal start unit defs flow merge found.alarms
+  are_real merge f count found = record {
+    real = by flow.heads merge refl refl;
+    closed = λ no_merge closed. let c = closed_flow closed in laws.marked flow defs found.lines found.alarms (asks c) (found.marked (c.no_loops, no_merge));
   }
     where
-      by_heads : (heads : List PointId) → flow.heads ≡ heads → AllByRecursion (IsRealAlarm start unit defs flow) found.alarms
-      by_heads [] e = all_real e found.alarms (laws.exact flow defs found.lines found.alarms valid (record { no_loops = e; few = few }) (found.marked e))
-      by_heads (p ∷ heads) e =
-          subst (λ (l : List Alarm). AllByRecursion (IsRealAlarm start unit defs flow) l) (sym (found.not_marked (λ none. let no : p ∷ heads ≡ [] = sym e ∙ none in absurd cc))) (none_real found.stuck)
+      without_marks : (IsFollowedWhole flow merge → ⊥) → AllByRecursion (IsRealAlarm start unit defs flow) found.alarms
+      without_marks searched = subst (λ (l : List Alarm). AllByRecursion (IsRealAlarm start unit defs flow) l) (sym (found.not_marked searched)) (none_real found.stuck)
+
+      by : (heads : List PointId) (m : Bool) → flow.heads ≡ heads → merge ≡ m → AllByRecursion (IsRealAlarm start unit defs flow) found.alarms
+      by [] false e f = all_real e found.alarms (laws.exact flow defs found.lines found.alarms valid (record { no_loops = e; few = few }) (found.marked (e, f)))
+      by [] true e f = without_marks (λ whole. let no : true ≡ false = sym f ∙ whole.1 in absurd cc)
+      by (p ∷ heads) m e f = without_marks (λ whole. let no : p ∷ heads ≡ [] = sym e ∙ whole.0 in absurd cc)

@@ -1,5 +1,5 @@
 -- Programs that are made, and what is seen of them.
-use Rattle.std.proofs.Common.{◌≡◌, ◌∙◌, ◌++◌, ◌+◌, ◌⊎◌, ℕ, zero, suc, List, [], ◌∷◌, inl, inr, refl, sym, ap, subst, length, arith}
+use Rattle.std.proofs.Common.{◌≡◌, ◌∙◌, ◌++◌, ◌+◌, ◌⊎◌, ℕ, zero, suc, false, List, [], ◌∷◌, inl, inr, refl, sym, ap, subst, length, arith}
 use Rattle.std.specs.Prelude.{IfErr, Result, Ok, Err}
 use Rattle.std.proofs.lemmas.List.{append-nil, append_assoc}
 use Rattle.mc_document.specs.Judge.Verdicts.{IsCertificate, IsChain}
@@ -37,23 +37,23 @@ use Rattle.mc_app.proofs.Asked.{no_demo_analysis, no_demo_check, no_demo_run}
 -- ---- verdicts on the documents of an analysis
 
 module _ (flow : Flow) (defs : List Def) (f : Findings) (v : Verdict) (said : IsVerdictOn flow defs f.document.items v) where
-  pub safe_is_seen : IsProved flow defs f → IsSeenOf flow defs (Judged v)
+  pub safe_is_seen : IsProved flow defs false f → IsSeenOf flow defs (Judged v)
   safe_is_seen proved =
       let certificate : IsCertificate flow defs f.document.items = record { lines = proved.lines; spelled = proved.spelled; valid = proved.valid } in
       let safe : v ≡ verdict.Safe = said.0.safe.1 certificate in
       subst (λ (x : Verdict). IsSeenOf flow defs (Judged x)) (sym safe) (f, proved, subst (λ (x : Verdict). IsVerdictOn flow defs f.document.items x) safe said)
 
-  pub alarms_are_seen : (count : ℕ) → HasAlarms flow defs f count → IsSeenOf flow defs (Judged v)
+  pub alarms_are_seen : (count : ℕ) → HasAlarms flow defs false f count → IsSeenOf flow defs (Judged v)
   alarms_are_seen count found =
       let chain : IsChain flow defs f.document.items found.stuck = record { lines = found.lines; spelled = found.spelled; short = found.chain } in
       let alarms : v ≡ verdict.Alarms count = (said.0.alarms count).1 (found.stuck, chain, found.counted, found.some) in
       subst (λ (x : Verdict). IsSeenOf flow defs (Judged x)) (sym alarms) (f, found, subst (λ (x : Verdict). IsVerdictOn flow defs f.document.items x) alarms said)
 
-pub at_safe : (flow : Flow) (defs : List Def) (found : Analysis) (f : Findings) → found ≡ analysis.Safe f → IsAnalysis flow defs found → IsProved flow defs f
-at_safe flow defs found f e is = subst (λ (a : Analysis). IsAnalysis flow defs a) e is
+pub at_safe : (flow : Flow) (defs : List Def) (found : Analysis) (f : Findings) → found ≡ analysis.Safe f → IsAnalysis flow defs false found → IsProved flow defs false f
+at_safe flow defs found f e is = subst (λ (a : Analysis). IsAnalysis flow defs false a) e is
 
-pub at_alarms : (flow : Flow) (defs : List Def) (found : Analysis) (f : Findings) (count : ℕ) → found ≡ analysis.Alarms f count → IsAnalysis flow defs found → HasAlarms flow defs f count
-at_alarms flow defs found f count e is = subst (λ (a : Analysis). IsAnalysis flow defs a) e is
+pub at_alarms : (flow : Flow) (defs : List Def) (found : Analysis) (f : Findings) (count : ℕ) → found ≡ analysis.Alarms f count → IsAnalysis flow defs false found → HasAlarms flow defs false f count
+at_alarms flow defs found f count e is = subst (λ (a : Analysis). IsAnalysis flow defs false a) e is
 
 -- what is known of an error alone
 pub at_long : {X Y : Type 0} (r : Result X Y) (y : Y) (P : Type 0) → r ≡ Err y → IfErr r (λ e. P) → P

@@ -1,5 +1,5 @@
 -- What a call's status means, from the cause of its answer.
-use Rattle.std.proofs.Common.{◌≡◌, ◌∙◌, ◌<◌, ◌⊎◌, ℕ, List, Option, Some, codes, inl, inr, refl, sym, ap, subst, length, arith}
+use Rattle.std.proofs.Common.{◌≡◌, ◌∙◌, ◌<◌, ◌⊎◌, ℕ, Bool, List, Option, Some, codes, inl, inr, refl, sym, ap, subst, length, arith}
 use Rattle.std.specs.Prelude.{Ok}
 use Rattle.mc_c_syntax.specs.Ast.Trees.{UnitTree}
 use Rattle.mc_document.specs.Judge.Verdicts.{IsChain}
@@ -36,7 +36,7 @@ use Rattle.mc_app.specs.declared.checking.Checked.TheVariants.{TooLong, Judged}
 use Rattle.mc_app.specs.declared.words.words.Request.{Request}
 use Rattle.mc_app.specs.declared.words.words.Request.TheVariants as request
 use Rattle.mc_app.proofs.Alike.{Given, Laws, given, never, one_defs, one_unit}
-use Rattle.mc_app.proofs.Asked.{no_analysis, no_demo_analysis, no_demo_check, no_demo_run, no_other, no_run, one_word}
+use Rattle.mc_app.proofs.Asked.{no_analysis, no_demo_analysis, no_demo_check, no_demo_run, no_other, no_run, one_flag, one_word}
 
 -- ---- the same words name the same files
 
@@ -166,7 +166,8 @@ alarms_tell holds words (Analysed (results.Found (analysis.Alarms f count))) old
         adds,
         subst (λ (l : List Path). TellsFaults a.start.now unit defs l found.0) alarming.stuck_are
             (told_by b.start.now a.start.now unit defs found.0 alarming.stuck count same.start found.1 alarming.counted alarming.some found.3.1.0),
-        subst (λ (s : List ℕ). AreReal s unit defs found.0 alarming.alarms) same.start found.3.1.1,
+        subst (λ (m : Bool). AreReal a.start.now unit defs found.0 m alarming.alarms) (one_flag analyse_app words (codes "merge") b.merge a.merge why.1.merge asks.merge)
+            (subst (λ (s : List ℕ). AreReal s unit defs found.0 b.merge alarming.alarms) same.start found.3.1.1),
       ),
     )
 

@@ -1,5 +1,5 @@
 -- Why the analysis of a program comes to what it does, and where its document goes.
-use Rattle.std.specs.Prelude.{◌≡◌, ◌≤◌, ℕ, List, Some, length, option_map}
+use Rattle.std.specs.Prelude.{◌≡◌, ◌≤◌, ℕ, Bool, List, Some, length, option_map}
 use Rattle.mc_c_syntax.specs.Ast.Trees.{UnitTree}
 use Rattle.mc_find.specs.Analysis.Findings.{IsAnalysis}
 use Rattle.mc_find.specs.declared.analysis.analysis.Analysis.{Analysis}
@@ -17,20 +17,20 @@ use Rattle.mc_app.specs.declared.analysing.Analysed.TheVariants.{TooLong, Found}
 
 -- what is found of this flow graph of the program means for its runs: with a certificate none has a fault; each that has one comes
 -- by one of the blocked branches of the chain that is reported, and the alarms with answers of malloc are real
-abbrev pub MeansForRuns : (start : List ℕ) (unit : UnitTree) (defs : List Def) (flow : Flow) (found : Analysis) → IsAnalysis flow defs found → Type 0
-MeansForRuns start unit defs flow (Safe f) proved = IsSafeUnit start unit defs
-MeansForRuns start unit defs flow (Alarms f count) alarming =
-    FaultsComeBy start unit defs flow alarming.stuck × AreReal start unit defs flow alarming.alarms
-MeansForRuns start unit defs flow (Paths document) crowded = Unit {0}
-MeansForRuns start unit defs flow Unknown looping = Unit {0}
+abbrev pub MeansForRuns : (start : List ℕ) (unit : UnitTree) (defs : List Def) (flow : Flow) (merge : Bool) (found : Analysis) → IsAnalysis flow defs merge found → Type 0
+MeansForRuns start unit defs flow merge (Safe f) proved = IsSafeUnit start unit defs
+MeansForRuns start unit defs flow merge (Alarms f count) alarming =
+    FaultsComeBy start unit defs flow alarming.stuck × AreReal start unit defs flow merge alarming.alarms
+MeansForRuns start unit defs flow merge (Paths document) crowded = Unit {0}
+MeansForRuns start unit defs flow merge Unknown searched = Unit {0}
 
--- the flow graph of the program has more than 10,000 points; or it has not, and this is found of it, and what it means; where that one has loops, a
--- search may give up
+-- the flow graph of the program has more than 10,000 points; or it has not, and this is found of it, and what it means; where that one
+-- has loops, or states are merged, a search may give up
 abbrev pub IsWhyAnalysed : Analyse → UnitTree → List Def → Analysed → Type 0
 IsWhyAnalysed a unit defs TooLong = IsLong a.start.now unit defs
 IsWhyAnalysed a unit defs (Found found) =
     (flow : Flow) × IsGraphOf a.start.now unit defs flow × (length flow.points ≤ 10000)
-    × ((is : IsAnalysis flow defs found) × MeansForRuns a.start.now unit defs flow found is)
+    × ((is : IsAnalysis flow defs a.merge found) × MeansForRuns a.start.now unit defs flow a.merge found is)
 
 -- the words ask for an analysis whose document goes into the file of this name
 abbrev pub IsTarget : List (List ℕ) → List ℕ → Type 0

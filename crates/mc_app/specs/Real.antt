@@ -1,5 +1,5 @@
 -- Alarms of a report that are real.
-use Rattle.std.specs.Prelude.{ℕ, List, Some, None}
+use Rattle.std.specs.Prelude.{◌≡◌, ℕ, Bool, false, List, Some, None}
 use Rattle.std.specs.List.{AllByRecursion}
 use Rattle.mc_c_syntax.specs.Ast.Trees.{UnitTree}
 use Rattle.mc_c_types.specs.Tables.{tables_of}
@@ -19,7 +19,7 @@ abbrev pub IsRealAlarm : (start : List ℕ) → UnitTree → List Def → Flow �
 IsRealAlarm start unit defs flow (b, None) = Unit {0}
 IsRealAlarm start unit defs flow (b, Some answers) = FaultsOn start unit defs flow b.point answers
 
--- so it is with each of these alarms; and where the program is closed, each carries answers
-pub record AreReal (start : List ℕ) (unit : UnitTree) (defs : List Def) (flow : Flow) (alarms : List Alarm) : Type 0 where
+-- so it is with each of these alarms; and where the program is closed, and no states are merged, each carries answers
+pub record AreReal (start : List ℕ) (unit : UnitTree) (defs : List Def) (flow : Flow) (merge : Bool) (alarms : List Alarm) : Type 0 where
   pub real : AllByRecursion (IsRealAlarm start unit defs flow) alarms
-  pub closed : IsClosedUnit start unit defs → AllByRecursion IsMarked alarms
+  pub closed : merge ≡ false → IsClosedUnit start unit defs → AllByRecursion IsMarked alarms

@@ -1,5 +1,5 @@
 -- What a call's status means where its words give a command.
-use Rattle.std.specs.Prelude.{◌≡◌, ◌<◌, ◌⊎◌, ℕ, List, Option, Some, Ok, length, map}
+use Rattle.std.specs.Prelude.{◌≡◌, ◌<◌, ◌⊎◌, ℕ, false, List, Option, Some, Ok, length, map}
 use Rattle.mc_c_syntax.specs.Ast.Trees.{UnitTree}
 use Rattle.mc_document.specs.Judge.Verdicts.{IsChain}
 use Rattle.mc_exact.specs.Marks.{Alarm as MarkedAlarm}
@@ -49,7 +49,7 @@ AlarmsMean holds old new unit defs (request.Demo n) = Unit {0}
 AlarmsMean holds old new unit defs (request.Analyse a) =
     (flow : Flow) × (heads : List WrittenHead) × (alarms : List MarkedAlarm) × (report : List ℕ)
     × IsChainReport flow defs heads alarms report × AddsIfTold old report new (Ok tt)
-    × TellsFaults a.start.now unit defs (map (λ x. x.0) alarms) flow × AreReal a.start.now unit defs flow alarms
+    × TellsFaults a.start.now unit defs (map (λ x. x.0) alarms) flow × AreReal a.start.now unit defs flow a.merge alarms
 
 -- the words ask for a check or an analysis, and where it is known what the files of its program and definitions hold, they are a
 -- program and its definitions, of whose faults the alarms tell
@@ -107,8 +107,9 @@ Decides start unit defs Words = ⊥
 Decides start unit defs Definitions = ⊥
 Decides start unit defs Document = ⊥
 
--- an analysis of a closed program, which is read and fits its definitions, decides it
+-- an analysis of a closed program, which is read and fits its definitions, decides it, unless it merges states: then an alarm need
+-- not be real
 abbrev pub IsDecided : Holds → List (List ℕ) → Status → Type 0
 IsDecided holds words status =
     (a : Analyse) (unit : UnitTree) (defs : List Def) → IsReady holds words (request.Analyse a) unit defs
-    → IsClosedUnit a.start.now unit defs → Decides a.start.now unit defs status
+    → a.merge ≡ false → IsClosedUnit a.start.now unit defs → Decides a.start.now unit defs status

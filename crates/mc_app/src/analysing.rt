@@ -16,7 +16,7 @@ use crate::words::Analyse;
 use mc_c_check::Bound;
 use mc_c_grammar::places::ascending_places_differ;
 use mc_exact::{closed_alarms_are_marked, marks_are_exact};
-use mc_find::analysis::{Analysis, analyse};
+use mc_find::analysis::{Analysis, Settings, analyse};
 use mc_kernel::{certificates_are_safe, last_pass_finds_faults};
 use mc_load::inputs::{Sources, read};
 use mc_load::lowered::graph;
@@ -33,6 +33,17 @@ pub enum Analysed {
     /// The flow graph of the program has more than 10,000 points.
     TooLong,
     Found(Analysis),
+}
+
+// How the words want a flow graph to be analysed.
+fn settings(names: Analyse<'_>) -> Settings
+    ensures { result.merge ≡ names.entry.merge }
+{
+    Settings {
+        states: names.disjuncts as usize,
+        rounds: names.rounds,
+        merge: names.merge,
+    }
 }
 
 // Analyses a program with its definitions.
@@ -59,13 +70,7 @@ fn analyse_bound(alloc: Global, names: Analyse<'_>, bound: &Bound) -> Result<Ana
     let defs = bound.defs();
     match graph(alloc, bound)? {
         Ok(lowered) => {
-            let found = analyse(
-                alloc,
-                &lowered.flow,
-                defs,
-                names.disjuncts as usize,
-                names.rounds,
-            )?;
+            let found = analyse(alloc, &lowered.flow, defs, settings(names))?;
             Ok(Analysed::Found(found))
         }
         Err(_) => Ok(Analysed::TooLong),

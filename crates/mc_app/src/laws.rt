@@ -41,7 +41,8 @@ pub fn answers_are_complete()
     open_documents_end_early();
 }
 
-/// Where a command that has its program and definitions ends by them, an analysis of a closed program decides it.
+/// Where a command that has its program and definitions ends by them, an analysis of a closed program that merges no states
+/// decides it.
 pub fn closed_programs_are_decided()
     ensures { (holds : Holds) (words : List (List ℕ)) (status : Status)
         → IsComplete holds words status → IsDecided holds words status }

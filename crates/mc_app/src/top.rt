@@ -140,11 +140,12 @@ pub fn memcad<F: Files, K: Sink>(
     // Where a document is accepted or a certificate was found, no run of the program has a fault.
     ensures safe { result ≡ Status.Good → IsSafeForWords (F.holds files.old) (map string_bytes words.now) }
     // Where there are alarms, every run of the program that has a fault comes by one of the branches that are reported; and where
-    // an alarm of an analysis carries a script, the program faults there with it. In closed programs each carries one.
+    // an alarm of an analysis carries a script, the program faults there with it. In closed programs each carries one, where no
+    // states are merged.
     ensures alarms { result ≡ Status.Alarm → AlarmsTell (F.holds files.old) (map string_bytes words.now) (K.written out.old) (K.written out.new) }
     // A command whose program and definitions are read and fit ends by its document, its script or what is found.
     ensures complete { IsComplete (F.holds files.old) (map string_bytes words.now) result }
-    // An analysis of a closed program ends with 0 where it is safe, and with 1 where it is not.
+    // An analysis of a closed program that merges no states ends with 0 where it is safe, and with 1 where it is not.
     ensures decided { IsDecided (F.holds files.old) (map string_bytes words.now) result }
     // Where the words ask for programs that are made, all is well.
     ensures demo { EndsWellForDemo (map string_bytes words.now) result }

@@ -38,13 +38,15 @@ fn shown_run(alloc: Global, run: Run<'_>) -> Result<String, AllocError> {
 }
 
 fn shown_analyse(alloc: Global, analyse: Analyse<'_>) -> Result<String, AllocError> {
+    let merge = if analyse.merge { "merge" } else { "no merge" };
     format!(in alloc;
-        "analyse {} {} from {}, rounds {}, disjuncts {}, document {}",
+        "analyse {} {} from {}, rounds {}, disjuncts {}, {merge}, runs {}, document {}",
         analyse.program,
         analyse.definitions,
         analyse.start,
         analyse.rounds,
         analyse.disjuncts,
+        analyse.runs,
         analyse.document.unwrap_or("none")
     )
 }

@@ -1,3 +1,4 @@
 pub mod Calm
 pub mod Spelled
 pub mod CalmPlaces
+pub mod Answers

@@ -1,5 +1,5 @@
 // Attempts for alarms of a program with loops.
-ghost use Rattle.std.specs.Prelude.{IfOk, IfSome, List};
+ghost use Rattle.std.specs.Prelude.{Bool, IfOk, IfSome, List};
 ghost use Rattle.mc_flow.specs.declared.defs.rules.Def.{Def};
 ghost use Rattle.mc_flow.specs.declared.graph.Flow.{Flow as Graph};
 ghost use Rattle.mc_flow.specs.Valid.{IsValid};
@@ -74,6 +74,7 @@ pub fn first_faults(alloc: Global, task: Task<'_>) -> Result<Vec<Blocked>, NoMem
         lines: FIRST,
         keys: usize::MAX,
         rounds: u64::MAX,
+        merge: false,
     };
     let style = Style {
         before: 0,
@@ -107,13 +108,20 @@ fn is_better(rank: &Rank, best: &Option<Offer>) -> bool {
 fn certificate(
     alloc: Global,
     task: Task<'_>,
+    merge: bool,
     attempt: Attempt<'_>,
 ) -> Result<Option<Proposed>, NoMemory>
     requires { IsValid task.sight.flow.now task.sight.defs.now }
-    ensures { IfOk result (λ found. IfSome found (λ proposed. IsProposed task.entry.sight.flow.now task.entry.sight.defs.now proposed)) }
+    ensures { IfOk result (λ found. IfSome found (λ proposed. IsProposed task.entry.sight.flow.now task.entry.sight.defs.now merge proposed)) }
 {
     let lines = attempt.document(Form::Certificate)?;
-    if is_found(alloc, task.sight.flow, task.sight.defs, lines.as_slice())? {
+    if is_found(
+        alloc,
+        task.sight.flow,
+        task.sight.defs,
+        merge,
+        lines.as_slice(),
+    )? {
         Ok(Some(Proposed::Certificate(lines)))
     } else {
         Ok(None)
@@ -121,12 +129,23 @@ fn certificate(
 }
 
 /// The lines of an attempt as a chain, where they are one that is accepted.
-fn chain(alloc: Global, task: Task<'_>, attempt: Attempt<'_>) -> Result<Option<Proposed>, NoMemory>
+fn chain(
+    alloc: Global,
+    task: Task<'_>,
+    merge: bool,
+    attempt: Attempt<'_>,
+) -> Result<Option<Proposed>, NoMemory>
     requires { IsValid task.sight.flow.now task.sight.defs.now }
-    ensures { IfOk result (λ found. IfSome found (λ proposed. IsProposed task.entry.sight.flow.now task.entry.sight.defs.now proposed)) }
+    ensures { IfOk result (λ found. IfSome found (λ proposed. IsProposed task.entry.sight.flow.now task.entry.sight.defs.now merge proposed)) }
 {
     let lines = attempt.document(Form::Chain)?;
-    match reported(alloc, task.sight.flow, task.sight.defs, lines.as_slice())? {
+    match reported(
+        alloc,
+        task.sight.flow,
+        task.sight.defs,
+        merge,
+        lines.as_slice(),
+    )? {
         Some(report) => Ok(Some(Proposed::Chain(lines, report))),
         None => Ok(None),
     }
@@ -136,16 +155,17 @@ fn chain(alloc: Global, task: Task<'_>, attempt: Attempt<'_>) -> Result<Option<P
 fn offered(
     alloc: Global,
     task: Task<'_>,
+    merge: bool,
     attempt: Attempt<'_>,
     rank: Rank,
 ) -> Result<Option<Proposed>, NoMemory>
     requires { IsValid task.sight.flow.now task.sight.defs.now }
-    ensures { IfOk result (λ found. IfSome found (λ proposed. IsProposed task.entry.sight.flow.now task.entry.sight.defs.now proposed)) }
+    ensures { IfOk result (λ found. IfSome found (λ proposed. IsProposed task.entry.sight.flow.now task.entry.sight.defs.now merge proposed)) }
 {
     if rank.alarms == 0 {
-        certificate(alloc, task, attempt)
+        certificate(alloc, task, merge, attempt)
     } else {
-        chain(alloc, task, attempt)
+        chain(alloc, task, merge, attempt)
     }
 }
 
@@ -161,12 +181,13 @@ fn try_one(
     left: &mut u64,
 ) -> Result<Option<Offer>, NoMemory>
     requires { IsValid task.sight.flow.now task.sight.defs.now }
-    ensures { IfOk result (λ found. IfSome found (λ offer. IsProposed task.entry.sight.flow.now task.entry.sight.defs.now offer.proposed)) }
+    ensures { IfOk result (λ found. IfSome found (λ offer. IsProposed task.entry.sight.flow.now task.entry.sight.defs.now limits.merge offer.proposed)) }
 {
     let own = Limits {
         lines: limits.lines.min(*left),
         keys: limits.keys,
         rounds: limits.rounds,
+        merge: limits.merge,
     };
     let mut attempt = Attempt::new(alloc, task, Aim::Chain, style, own)?;
     let is_whole = attempt.run()?;
@@ -179,7 +200,7 @@ fn try_one(
     if !is_better(&rank, best) {
         return Ok(None);
     }
-    match offered(alloc, task, attempt, rank)? {
+    match offered(alloc, task, limits.merge, attempt, rank)? {
         Some(proposed) => Ok(Some(Offer { proposed, rank })),
         None => Ok(None),
     }
@@ -216,8 +237,8 @@ fn is_needed(style: &Style, best: &Option<Offer>, faults: &[Blocked]) -> bool {
 
 /// What was found best.
 fn best_of(best: Option<Offer>) -> Option<Proposed>
-    ensures { (flow : Graph) (defs : List Def) → IfSome best (λ offer. IsProposed flow defs offer.proposed)
-        → IfSome result (λ proposed. IsProposed flow defs proposed) }
+    ensures { (flow : Graph) (defs : List Def) (merge : Bool) → IfSome best (λ offer. IsProposed flow defs merge offer.proposed)
+        → IfSome result (λ proposed. IsProposed flow defs merge proposed) }
 {
     match best {
         Some(found) => Some(found.proposed),
@@ -234,7 +255,7 @@ pub fn try_all(
     faults: &[Blocked],
 ) -> Result<Option<Proposed>, NoMemory>
     requires { IsValid task.sight.flow.now task.sight.defs.now }
-    ensures { IfOk result (λ found. IfSome found (λ proposed. IsProposed task.entry.sight.flow.now task.entry.sight.defs.now proposed)) }
+    ensures { IfOk result (λ found. IfSome found (λ proposed. IsProposed task.entry.sight.flow.now task.entry.sight.defs.now limits.merge proposed)) }
 {
     let mut left = limits.lines.saturating_mul(WHOLE);
     let mut best: Option<Offer> = None;

@@ -3,14 +3,15 @@ use mc_base::{NoMemory, PointId};
 use mc_flow::Flow;
 use std::alloc::Global;
 
-/// The loop heads of a flow graph, ascending, each once.
-pub fn loop_heads(alloc: Global, flow: &Flow) -> Result<Vec<PointId>, NoMemory> {
-    let mut cuts: Vec<PointId> = Vec::with_capacity(alloc, flow.heads.len())?;
-    for head in flow.heads.as_slice() {
-        if !cuts.as_slice().contains(head) {
-            cuts.push(*head)?;
-        }
+/// The points that a certificate has to cut, ascending, each once: the loop heads, and where states are merged the points where
+/// an `if` ends.
+pub fn first_cuts(alloc: Global, flow: &Flow, merge: bool) -> Result<Vec<PointId>, NoMemory> {
+    let mut cuts: Vec<PointId> = Vec::new(alloc);
+    cuts.extend_from_slice(flow.heads.as_slice())?;
+    if merge {
+        cuts.extend_from_slice(flow.merges.as_slice())?;
     }
     cuts.sort()?;
+    cuts.dedup();
     Ok(cuts)
 }

@@ -55,7 +55,7 @@ pub fn lines_in_all(limits: Limits) -> u64 {
 }
 
 /// One attempt, for which at most so many lines are left; what it takes without success is left no more. What is no valid
-/// certificate, has other cuts than the loop heads, ends too many branches, or has a line out of place counts as nothing.
+/// certificate, lacks a cut, ends too many branches, or has a line out of place counts as nothing.
 fn try_one(
     alloc: Global,
     task: Task<'_>,
@@ -66,17 +66,24 @@ fn try_one(
     requires { IsValid task.sight.flow.now task.sight.defs.now }
     ensures { IfOk result
         (λ found. IfSome found
-        (λ lines. IsFound task.entry.sight.flow.now task.entry.sight.defs.now lines.items)) }
+        (λ lines. IsFound task.entry.sight.flow.now task.entry.sight.defs.now limits.merge lines.items)) }
 {
     let own = Limits {
         lines: limits.lines.min(*left),
         keys: plan.keys,
         rounds: limits.rounds,
+        merge: limits.merge,
     };
     let attempt = Attempt::new(alloc, task, Aim::Certificate, plan.style, own)?;
     let taken = match attempt.make()? {
         Outcome::Found(lines) => {
-            if is_found(alloc, task.sight.flow, task.sight.defs, lines.as_slice())? {
+            if is_found(
+                alloc,
+                task.sight.flow,
+                task.sight.defs,
+                limits.merge,
+                lines.as_slice(),
+            )? {
                 return Ok(Some(lines));
             }
             own.lines
@@ -97,7 +104,7 @@ pub fn first_certificate(
     requires { IsValid task.sight.flow.now task.sight.defs.now }
     ensures { IfOk result
         (λ found. IfSome found
-        (λ lines. IsFound task.entry.sight.flow.now task.entry.sight.defs.now lines.items)) }
+        (λ lines. IsFound task.entry.sight.flow.now task.entry.sight.defs.now limits.merge lines.items)) }
 {
     let plan = planned(0, 0, Step::Plain, limits.keys);
     try_one(alloc, task, plan, limits, left)
@@ -113,7 +120,7 @@ pub fn later_certificate(
     requires { IsValid task.sight.flow.now task.sight.defs.now }
     ensures { IfOk result
         (λ found. IfSome found
-        (λ lines. IsFound task.entry.sight.flow.now task.entry.sight.defs.now lines.items)) }
+        (λ lines. IsFound task.entry.sight.flow.now task.entry.sight.defs.now limits.merge lines.items)) }
 {
     for plan in &later_plans(limits.keys) {
         if *left > 0 {

@@ -1,7 +1,7 @@
 // What is found out of a program once, before it is searched.
 ghost use Rattle.std.specs.Prelude.{◌≡◌};
 
-use crate::cuts::loop_heads;
+use crate::cuts::first_cuts;
 use crate::walks::Task;
 use mc_base::{NoMemory, PointId, PredId};
 use mc_find_view::live::{
@@ -21,17 +21,23 @@ pub struct Prepared {
     wanted: Vec<PredId>,
     asserted: Vec<Asserted>,
     cuts: Vec<PointId>,
+    all: bool,
 }
 
 impl Prepared {
-    /// What is found out of a program.
-    pub fn of(alloc: Global, flow: &Flow, defs: &Defs) -> Result<Prepared, NoMemory> {
+    /// What is found out of a program, whose states are merged where an `if` ends or not.
+    pub fn of(alloc: Global, flow: &Flow, defs: &Defs, merge: bool) -> Result<Prepared, NoMemory> {
         let live = live_variables(alloc, flow)?;
         let stored = StoredFields::of(alloc, flow)?;
-        let constants = constant_variables(alloc, flow)?;
+        // States that are merged are told apart by no constants, and all that they say of variables is kept.
+        let constants = if merge {
+            Vec::new(alloc)
+        } else {
+            constant_variables(alloc, flow)?
+        };
         let wanted = wanted_predicates(alloc, flow, defs)?;
         let asserted = asserted_shapes(alloc, flow)?;
-        let cuts = loop_heads(alloc, flow)?;
+        let cuts = first_cuts(alloc, flow, merge)?;
         Ok(Prepared {
             live,
             stored,
@@ -39,6 +45,7 @@ impl Prepared {
             wanted,
             asserted,
             cuts,
+            all: merge || asks_for_empty(flow),
         })
     }
 
@@ -53,7 +60,7 @@ impl Prepared {
             live: &self.live,
             stored: &self.stored,
             constants: self.constants.as_slice(),
-            all: asks_for_empty(flow),
+            all: self.all,
         };
         Task {
             sight,

@@ -25,7 +25,7 @@ fn more_certificates(
     requires { IsValid task.sight.flow.now task.sight.defs.now }
     ensures { IfOk result
         (λ found. IfSome found
-        (λ lines. IsFound task.entry.sight.flow.now task.entry.sight.defs.now lines.items)) }
+        (λ lines. IsFound task.entry.sight.flow.now task.entry.sight.defs.now limits.merge lines.items)) }
 {
     if faults.is_empty() {
         later_certificate(alloc, task, limits, left)
@@ -39,7 +39,7 @@ fn search_task(alloc: Global, task: Task<'_>, limits: Limits) -> Result<Option<P
     requires { IsValid task.sight.flow.now task.sight.defs.now }
     ensures { IfOk result
         (λ found. IfSome found
-        (λ proposed. IsProposed task.entry.sight.flow.now task.entry.sight.defs.now proposed)) }
+        (λ proposed. IsProposed task.entry.sight.flow.now task.entry.sight.defs.now limits.merge proposed)) }
 {
     let mut left = lines_in_all(limits);
     if let Some(lines) = first_certificate(alloc, task, limits, &mut left)? {
@@ -54,7 +54,7 @@ fn search_task(alloc: Global, task: Task<'_>, limits: Limits) -> Result<Option<P
 
 /// The lines of a valid certificate of a flow graph, or else a chain of one pass that tells where it may fail, where one is
 /// found within the limits of each attempt: of several chains the one that tells best what is met before anything is folded.
-/// Its cuts are the loop heads, and it ends no more than 65,536 branches. A search may give up: None says only that nothing
+/// The loop heads are cuts of it, and it ends no more than 65,536 branches. A search may give up: None says only that nothing
 /// was found.
 pub fn search(
     alloc: Global,
@@ -63,8 +63,8 @@ pub fn search(
     limits: Limits,
 ) -> Result<Option<Proposed>, NoMemory>
     requires { IsValid flow.now defs.now }
-    ensures { IfOk result (λ found. IfSome found (λ proposed. IsProposed flow.now defs.now proposed)) }
+    ensures { IfOk result (λ found. IfSome found (λ proposed. IsProposed flow.now defs.now limits.merge proposed)) }
 {
-    let prepared = Prepared::of(alloc, flow, defs)?;
+    let prepared = Prepared::of(alloc, flow, defs, limits.merge)?;
     search_task(alloc, prepared.task(flow, defs), limits)
 }

@@ -1,5 +1,5 @@
 -- What is seen of a program that was made.
-use Rattle.std.specs.Prelude.{◌≡◌, ◌≤◌, ◌⊎◌, ℕ, List, codes, length}
+use Rattle.std.specs.Prelude.{◌≡◌, ◌≤◌, ◌⊎◌, ℕ, false, List, codes, length}
 use Rattle.mc_c_syntax.specs.Ast.Trees.{UnitTree}
 use Rattle.mc_document.specs.declared.judge.verdict.Verdict.TheVariants as verdict
 use Rattle.mc_find.specs.Analysis.Findings.{HasAlarms, HasTooManyPaths, IsAnalysis, IsProved}
@@ -21,16 +21,16 @@ start = codes "main"
 
 -- ---- flow graphs
 
--- what is seen of a flow graph: that its analysis gave up, or came to its limit; or the verdict on the document that it wrote, which
+-- what is seen of a flow graph, whose states are not merged: that its analysis gave up, or came to its limit; or the verdict on the document that it wrote, which
 -- is a certificate or a chain with alarms, and is never refused
 abbrev pub IsSeenOf : Flow → List Def → Seen → Type 0
 IsSeenOf flow defs Unread = ⊥
-IsSeenOf flow defs NotYet = IsAnalysis flow defs analysis.Unknown
+IsSeenOf flow defs NotYet = IsAnalysis flow defs false analysis.Unknown
 IsSeenOf flow defs Paths = (document : List ℕ) × HasTooManyPaths flow defs document
 IsSeenOf flow defs (Judged verdict.Safe) =
-    (f : Findings) × IsProved flow defs f × IsVerdictOn flow defs f.document.items verdict.Safe
+    (f : Findings) × IsProved flow defs false f × IsVerdictOn flow defs f.document.items verdict.Safe
 IsSeenOf flow defs (Judged (verdict.Alarms count)) =
-    (f : Findings) × HasAlarms flow defs f count × IsVerdictOn flow defs f.document.items (verdict.Alarms count)
+    (f : Findings) × HasAlarms flow defs false f count × IsVerdictOn flow defs f.document.items (verdict.Alarms count)
 IsSeenOf flow defs (Judged (verdict.Refused cause)) = ⊥
 
 -- what is seen of a program with its definitions: that its flow graph has more than 10,000 points, or what is seen of that

@@ -1,6 +1,7 @@
 -- The commands, as `clap` reads them.
 use Rattle.std.specs.Prelude.{ℕ, true, List, [], ◌∷◌, Some, codes}
 use Rattle.clap.specs.Words.{App, Rule, new_app, new_rule, with_rule}
+use Rattle.clap.specs.declared.builder.action.ArgAction.TheVariants.{SetTrue}
 use Rattle.clap.specs.declared.builder.value_parser.ValueParser.TheVariants as vp
 
 -- a word that has to be there
@@ -11,13 +12,17 @@ place id = record (new_rule id) { required = true }
 abbrev pub option : List ℕ → List ℕ → Rule
 option id default = record (new_rule id) { long = Some id; defaults = default ∷ [] }
 
--- `--id NUMBER`, likewise, from 1 to a number
-abbrev pub number_option : List ℕ → List ℕ → ℕ → Rule
-number_option id default most = record (option id default) { parser = Some (vp.Unsigned 1 most) }
+-- `--id NUMBER`, likewise, from a number to another
+abbrev pub number_option : List ℕ → List ℕ → (least most : ℕ) → Rule
+number_option id default least most = record (option id default) { parser = Some (vp.Unsigned least most) }
 
 -- a number that has to be there, up to another
 abbrev pub number_place : List ℕ → ℕ → Rule
 number_place id most = record (place id) { parser = Some (vp.Unsigned 0 most) }
+
+-- `--id`, which may be left out, and takes no value
+abbrev pub flag : List ℕ → Rule
+flag id = record (new_rule id) { long = Some id; action = Some SetTrue }
 
 -- `--id VALUE`, which may be left out
 abbrev pub free_option : List ℕ → Rule
@@ -41,13 +46,18 @@ check_app = three_files (codes "check") (codes "document")
 
 -- `run PROGRAM DEFINITIONS SCRIPT [--entry F] [--fuel N]`
 unfoldable pub run_app : App
-run_app = with_rule (three_files (codes "run") (codes "script")) (number_option (codes "fuel") (codes "100000") 10000000)
+run_app = with_rule (three_files (codes "run") (codes "script")) (number_option (codes "fuel") (codes "100000") 1 10000000)
 
--- `analyse PROGRAM DEFINITIONS [--entry F] [--rounds N] [--disjuncts N] [--document FILE]`
+-- the limits of a search, from which `analyse` begins
+unfoldable pub search_app : App
+search_app =
+    with_rule (with_rule (with_rule (with_rule (two_files (codes "analyse")) entry_option)
+    (number_option (codes "rounds") (codes "30") 1 100)) (number_option (codes "disjuncts") (codes "16") 1 64)) (flag (codes "merge"))
+
+-- `analyse PROGRAM DEFINITIONS [--entry F] [--rounds N] [--disjuncts N] [--merge] [--runs N] [--document FILE]`
 unfoldable pub analyse_app : App
 analyse_app =
-    with_rule (with_rule (with_rule (with_rule (two_files (codes "analyse")) entry_option)
-    (number_option (codes "rounds") (codes "30") 100)) (number_option (codes "disjuncts") (codes "16") 64)) (free_option (codes "document"))
+    with_rule (with_rule search_app (number_option (codes "runs") (codes "20000") 0 1000000)) (free_option (codes "document"))
 
 -- `demo NUMBER`
 unfoldable pub demo_app : App

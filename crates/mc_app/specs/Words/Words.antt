@@ -1,5 +1,5 @@
 -- What words ask for.
-use Rattle.std.specs.Prelude.{◌≡◌, ℕ, List, [], ◌∷◌, Ok, Option, Some, codes, option_map}
+use Rattle.std.specs.Prelude.{◌≡◌, ℕ, Bool, true, false, List, [], ◌∷◌, Ok, Option, Some, codes, option_map}
 use Rattle.std.specs.Str.Parse.{ParsesUnsigned}
 use Rattle.clap.specs.Words.{App, first_of, matches_of}
 use Rattle.clap.specs.Faults.{fault_of}
@@ -36,6 +36,15 @@ ReadsNumber = ReadsUnsigned 64
 abbrev pub ReadsSmallNumber : App → List (List ℕ) → List ℕ → ℕ → Type 0
 ReadsSmallNumber = ReadsUnsigned 32
 
+-- what a command reads of a flag
+abbrev pub flag_text : Bool → List ℕ
+flag_text true = codes "true"
+flag_text false = codes "false"
+
+-- whether the words have the flag that a command reads at one of its names
+abbrev pub ReadsFlag : App → List (List ℕ) → List ℕ → Bool → Type 0
+ReadsFlag app words id is = one_of id (matches_of app words) ≡ Some (flag_text is)
+
 -- the words are a `check` with these files and this entry
 pub record AsksCheck (words : List (List ℕ)) (c : Check) : Type 0 where
   pub named : IsFor (codes "check") check_app words
@@ -53,7 +62,8 @@ pub record AsksRun (words : List (List ℕ)) (c : Run) : Type 0 where
   pub start : Reads run_app words (codes "entry") c.start.now
   pub fuel : ReadsNumber run_app words (codes "fuel") c.fuel
 
--- the words are an `analyse` with these files, this entry, these limits and this document, if there is one
+-- the words are an `analyse` with these files, this entry, these limits, with `--merge` or without, with so many runs at most, and
+-- with this document, if there is one
 pub record AsksAnalyse (words : List (List ℕ)) (c : Analyse) : Type 0 where
   pub named : IsFor (codes "analyse") analyse_app words
   pub program : Reads analyse_app words (codes "program") c.program.now
@@ -61,6 +71,8 @@ pub record AsksAnalyse (words : List (List ℕ)) (c : Analyse) : Type 0 where
   pub start : Reads analyse_app words (codes "entry") c.start.now
   pub rounds : ReadsNumber analyse_app words (codes "rounds") c.rounds
   pub disjuncts : ReadsNumber analyse_app words (codes "disjuncts") c.disjuncts
+  pub merge : ReadsFlag analyse_app words (codes "merge") c.merge
+  pub runs : ReadsNumber analyse_app words (codes "runs") c.runs
   pub document : ReadsPerhaps analyse_app words (codes "document") (option_map (λ s. s.now) c.document)
 
 -- the words are a `demo` of this number

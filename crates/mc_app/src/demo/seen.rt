@@ -9,7 +9,7 @@ ghost use Rattle.mc_app.specs.Demo.Seen.{IsSeen, IsSeenOf, IsSeenWith, start};
 use crate::documents::verdict_on;
 use mc_c_check::Bound;
 use mc_document::judge::Verdict;
-use mc_find::analysis::{Analysis, analyse};
+use mc_find::analysis::{Analysis, Settings, analyse};
 use mc_flow::{Defs, Flow};
 use mc_gen::definitions;
 use mc_load::inputs::read_pair;
@@ -19,11 +19,12 @@ use std::alloc::{AllocError, Global};
 // The function that runs of these programs begin with.
 const START: &str = "main";
 
-// How many states a loop may have at first.
-const DISJUNCTS: usize = 16;
-
-// How many rounds the states of a loop may take in an attempt.
-const ROUNDS: u64 = 30;
+// How their flow graphs are analysed.
+const SETTINGS: Settings = Settings {
+    states: 16,
+    rounds: 30,
+    merge: false,
+};
 
 /// What is seen of a program that was made.
 #[derive(Drop)]
@@ -85,7 +86,7 @@ fn of_flow(alloc: Global, flow: &Flow, defs: &Defs) -> Result<Seen, AllocError>
     requires { IsValid flow.now defs.now }
     ensures { IfOk result (IsSeenOf flow.now defs.now) }
 {
-    match analyse(alloc, flow, defs, DISJUNCTS, ROUNDS)? {
+    match analyse(alloc, flow, defs, SETTINGS)? {
         Analysis::Unknown => Ok(Seen::NotYet),
         Analysis::Paths(_) => Ok(Seen::Paths),
         Analysis::Safe(findings) => {

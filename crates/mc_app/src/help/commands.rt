@@ -94,6 +94,16 @@ fn analyse<'w>(alloc: Global) -> Result<Command<'w>, AllocError> {
         "N",
         "How many states a loop may have at first, up to 64",
     )?;
+    let command = command.mut_arg(
+        "merge",
+        |argument: Arg<'_>| Ok(argument.help("Join the states of branches where an if ends")),
+    )?;
+    let command = described(
+        command,
+        "runs",
+        "N",
+        "How many runs are tried for scripts of alarms, up to 1000000",
+    )?;
     described(
         command,
         "document",

@@ -1,10 +1,10 @@
 // The commands, as `clap` reads them.
 ghost use Rattle.std.specs.Prelude.{◌≡◌, IfOk, codes, false};
 ghost use Rattle.clap.specs.Words.{app_of, rule_of};
-ghost use Rattle.mc_app.specs.Words.Commands.{analyse_app, check_app, demo_app, entry_option, free_option, number_option, number_place, option, place, run_app, three_files, two_files};
+ghost use Rattle.mc_app.specs.Words.Commands.{analyse_app, check_app, demo_app, entry_option, flag, free_option, number_option, number_place, option, place, run_app, search_app, three_files, two_files};
 
 use clap::builder::ValueParser;
-use clap::{Arg, Command};
+use clap::{Arg, ArgAction, Command};
 use std::alloc::{AllocError, Global};
 
 /// A word that has to be there.
@@ -39,12 +39,20 @@ fn free_option<'w>(alloc: Global, id: &'w str) -> Arg<'w>
     Arg::new(alloc, id).long(id)
 }
 
-/// `--id NUMBER`, likewise, from 1 to a number.
-fn number<'w>(alloc: Global, id: &'w str, default: &'w str, most: u64) -> Arg<'w>
-    ensures rule { rule_of result ≡ number_option id.entry.now default.entry.now most }
+/// `--id NUMBER`, likewise, from a number to another.
+fn number<'w>(alloc: Global, id: &'w str, default: &'w str, least: u64, most: u64) -> Arg<'w>
+    ensures rule { rule_of result ≡ number_option id.entry.now default.entry.now least most }
     ensures local { result.global ≡ false }
 {
-    option(alloc, id, default).value_parser(ValueParser::Unsigned(1, most))
+    option(alloc, id, default).value_parser(ValueParser::Unsigned(least, most))
+}
+
+/// `--id`, which may be left out, and takes no value.
+fn flag<'w>(alloc: Global, id: &'w str) -> Arg<'w>
+    ensures rule { rule_of result ≡ flag id.entry.now }
+    ensures local { result.global ≡ false }
+{
+    Arg::new(alloc, id).long(id).action(ArgAction::SetTrue)
 }
 
 /// The function that runs begin with.
@@ -87,19 +95,29 @@ pub fn check<'w>(alloc: Global) -> Result<Command<'w>, AllocError>
 pub fn run<'w>(alloc: Global) -> Result<Command<'w>, AllocError>
     ensures { IfOk result (λ c. app_of c ≡ run_app) }
 {
-    let fuel = number(alloc, "fuel", "100000", 10_000_000);
+    let fuel = number(alloc, "fuel", "100000", 1, 10_000_000);
     let command = three_files(alloc, "run", "script")?.arg(fuel)?;
     Ok(command)
 }
 
-/// `analyse PROGRAM DEFINITIONS [--entry F] [--rounds N] [--disjuncts N] [--document FILE]`.
-pub fn analyse<'w>(alloc: Global) -> Result<Command<'w>, AllocError>
-    ensures { IfOk result (λ c. app_of c ≡ analyse_app) }
+/// `analyse`, as far as the limits of a search.
+fn search<'w>(alloc: Global) -> Result<Command<'w>, AllocError>
+    ensures { IfOk result (λ c. app_of c ≡ search_app) }
 {
     let command = two_files(alloc, "analyse")?
         .arg(entry(alloc))?
-        .arg(number(alloc, "rounds", "30", 100))?
-        .arg(number(alloc, "disjuncts", "16", 64))?
+        .arg(number(alloc, "rounds", "30", 1, 100))?
+        .arg(number(alloc, "disjuncts", "16", 1, 64))?
+        .arg(flag(alloc, "merge"))?;
+    Ok(command)
+}
+
+/// `analyse PROGRAM DEFINITIONS [--entry F] [--rounds N] [--disjuncts N] [--merge] [--runs N] [--document FILE]`.
+pub fn analyse<'w>(alloc: Global) -> Result<Command<'w>, AllocError>
+    ensures { IfOk result (λ c. app_of c ≡ analyse_app) }
+{
+    let command = search(alloc)?
+        .arg(number(alloc, "runs", "20000", 0, 1_000_000))?
         .arg(free_option(alloc, "document"))?;
     Ok(command)
 }

@@ -1,5 +1,5 @@
 // What words ask for.
-ghost use Rattle.std.specs.Prelude.{◌≡◌, ◌∷◌, [], List, ℕ, IfOk, MatchOption, Some, codes, map, option_map, string_bytes, true};
+ghost use Rattle.std.specs.Prelude.{◌≡◌, ◌∷◌, [], Bool, List, ℕ, IfOk, MatchOption, Some, codes, map, option_map, string_bytes, true};
 ghost use Rattle.clap.specs.Words.{App, app_of, found_of, matches_of};
 ghost use Rattle.clap.specs.Faults.{fault_of, is_simple_and_free};
 ghost use Rattle.clap.specs.Walk.{rows_of};
@@ -7,7 +7,7 @@ ghost use Rattle.mc_app.specs.declared.words.words.Check.{Check as Judges};
 ghost use Rattle.mc_app.specs.declared.words.words.Run.{Run as Runs};
 ghost use Rattle.mc_app.specs.declared.words.words.Analyse.{Analyse as Analyses};
 ghost use Rattle.mc_app.specs.Words.Commands.{analyse_app, check_app, demo_app, run_app};
-ghost use Rattle.mc_app.specs.Words.Words.{Asks, AsksAnalyse, AsksCheck, AsksDemo, AsksRun, IsFor, Reads, ReadsNumber, ReadsPerhaps, ReadsSmallNumber};
+ghost use Rattle.mc_app.specs.Words.Words.{Asks, AsksAnalyse, AsksCheck, AsksDemo, AsksRun, IsFor, Reads, ReadsFlag, ReadsNumber, ReadsPerhaps, ReadsSmallNumber};
 ghost use Rattle.mc_app.specs.declared.words.words.Request.{Request as Meant};
 
 use crate::words::commands;
@@ -48,6 +48,10 @@ pub struct Analyse<'w> {
     pub rounds: u64,
     /// How many states a cut has at most, from 1 to 64.
     pub disjuncts: u64,
+    /// Whether the states of branches come together where an `if` ends.
+    pub merge: bool,
+    /// How many runs are tried for scripts of alarms, from 0 to 1,000,000.
+    pub runs: u64,
     /// Where the document is written, if it is wanted.
     pub document: Option<&'w str>,
 }
@@ -107,6 +111,14 @@ fn small_number(found: &ArgMatches<'_>, id: &str) -> Option<u32>
     found.get_one::<u32>(id)
 }
 
+// Whether a command has read the flag of this name.
+fn flag(found: &ArgMatches<'_>, id: &str) -> Option<bool>
+    ensures { (app : App) (words : List (List ℕ)) → rows_of (found_of found.now) ≡ matches_of app words
+        → MatchOption result ((is : Bool) → ReadsFlag app words id.now is → ⊥) (ReadsFlag app words id.now) }
+{
+    found.get_one::<bool>(id)
+}
+
 // The word that a command has read at a name that may be left out.
 fn word_perhaps<'w>(found: &ArgMatches<'w>, id: &str) -> Option<&'w str>
     ensures { (app : App) (words : List (List ℕ)) → rows_of (found_of found.now) ≡ matches_of app words
@@ -156,6 +168,8 @@ fn analyse_of<'w>(found: &ArgMatches<'w>) -> Option<Analyse<'w>>
         start: word(found, "entry")?,
         rounds: number(found, "rounds")?,
         disjuncts: number(found, "disjuncts")?,
+        merge: flag(found, "merge")?,
+        runs: number(found, "runs")?,
         document: word_perhaps(found, "document"),
     })
 }

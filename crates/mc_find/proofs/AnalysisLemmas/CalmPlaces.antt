@@ -1,7 +1,7 @@
 -- The lines of a chain without stuck branches are in their places in the certificate too.
-use Rattle.std.proofs.Common.{◌≡◌, ◌++◌, ◌∷◌, ◌∙◌, ◌+◌, ◌≤◌, ℕ, List, [], Bool, true, map, refl, sym, ap, subst, arith}
+use Rattle.std.proofs.Common.{◌≡◌, ◌++◌, ◌∷◌, ◌∙◌, ◌+◌, ◌≤◌, ℕ, List, [], Bool, true, false, map, refl, sym, ap, subst, arith}
 use Rattle.std.specs.Prelude.{Ok, Some, None, if◌then◌else◌}
-use Rattle.std.proofs.lemmas.List.{map-append}
+use Rattle.std.proofs.lemmas.List.{map-append, nil_from_length}
 use Rattle.std.specs.List.{AllByRecursion, filter, list_all}
 use Rattle.mc_base.specs.declared.ids.PointId.{PointId}
 use Rattle.mc_lines.specs.declared.cert.line.Line.{Line}
@@ -25,11 +25,14 @@ use Rattle.mc_kernel.specs.Reading.Laws.{LinesMakeWellMade}
 use Rattle.mc_kernel.proofs.ReadingLemmas.Front.{head_line}
 use Rattle.mc_kernel.proofs.ReadingLemmas.Lists.{all_join}
 use Rattle.mc_kernel.proofs.ReadingLemmas.Rules.{ruling_at}
-use Rattle.mc_document.specs.Places.{AreInPlace, HasPlaces, cut_of, cuts_of, may_stand}
+use Rattle.mc_document.specs.Places.{AreInPlace, HasPlaces, cuts_of, may_stand}
 use Rattle.mc_document.proofs.PlacesLemmas.{one_next}
 use Rattle.mc_document.proofs.ProofLemmas.Roots.{roots_made}
+use Rattle.mc_follow.specs.Alarms.Outcomes.{IsWhole}
+use Rattle.mc_follow.specs.declared.alarms.outcome.Document.{Document}
 use Rattle.mc_follow.specs.Alarms.Walks.{ended_by, ending}
 use Rattle.mc_find.specs.Analysis.Findings.{IsFound, stays, under_header}
+use Rattle.mc_find.proofs.AcceptedLemmas.{none_asked}
 use Rattle.mc_find.proofs.AnalysisLemmas.Calm.{certificate, chain, chain_stays, instance_still, is_certificate, none_later, opened}
 
 abbrev in_chain : List Path → List Path → Reading
@@ -123,13 +126,7 @@ module _ (judged : LinesAreJudged) (makes : LinesMakeWellMade) (flow : Flow) (de
       ap (λ (all : Bool). need 1 all (Ok (in_chain (roots flow []) []))) full in
       begun_still rules full reads (all_still rules (roots flow []) [] refl made reads [] [] (placed.1 (in_chain (roots flow []) []) passed))
 
--- ---- cuts, and how many branches are ended
-
-cuts_kept : (lines : List Line) → cuts_of (filter stays lines) ≡ cuts_of lines
-cuts_kept [] = refl
-cuts_kept (Header version form ∷ lines) = cuts_kept lines
-cuts_kept (Pass ∷ lines) = cuts_kept lines
-cuts_kept (l ∷ lines) = ap (λ (cuts : List PointId). cut_of l ++ cuts) (cuts_kept lines)
+-- ---- how many branches are ended, and cuts
 
 ended_kept : (lines : List Line) → ended_by (filter stays lines) ≡ ended_by lines
 ended_kept [] = refl
@@ -183,7 +180,7 @@ uncut flow defs lines no_loops c cuts = of_cuts c.cuts c.heads none c.heads_are 
 
 -- the lines of a chain without stuck branches, under the header of a certificate, are found
 pub calm_is_found : LinesAreJudged → LinesMakeWellMade → UnknownIsBounded → (flow : Flow) (defs : List Def) (lines : List Line) → IsValid flow defs
-    → flow.heads ≡ [] → IsShortChain flow defs lines [] → ended_by lines ≤ 65536 → HasPlaces flow defs Chain lines → IsFound flow defs (under_header lines)
+    → flow.heads ≡ [] → IsShortChain flow defs lines [] → ended_by lines ≤ 65536 → HasPlaces flow defs Chain lines → IsFound flow defs false (under_header lines)
 calm_is_found judged makes unknown flow defs lines valid no_loops c few places =
     let u = uncut flow defs lines no_loops c places.cuts in
     let same : ended_by (filter stays lines) ≡ ended_by lines = ended_kept lines in
@@ -192,15 +189,21 @@ calm_is_found judged makes unknown flow defs lines valid no_loops c few places =
     record {
       valid = is_certificate flow defs lines c;
       within = omega (arith, few, same);
-      places = record {
-        cuts = cuts_kept lines ∙ places.cuts;
-        sides = record {
-          behind = filter stays lines;
-          spelled = refl;
-          in_place = λ k well judge.
-              subst (λ (ls : List Line). AreInPlace k well flow defs ls (begun Certificate)) (sym u.kept)
-              (all_placed judged makes flow defs valid k well judge u.rules no_loops (roots_made unknown flow defs [] tt) u.reads
-              (subst (λ (ls : List Line). AreInPlace k well flow defs ls (begun Chain)) behind (places.sides.in_place k well judge)));
-        };
+      cuts = none_asked flow (under_header lines) no_loops;
+      sides = record {
+        behind = filter stays lines;
+        spelled = refl;
+        in_place = λ k well judge.
+            subst (λ (ls : List Line). AreInPlace k well flow defs ls (begun Certificate)) (sym u.kept)
+            (all_placed judged makes flow defs valid k well judge u.rules no_loops (roots_made unknown flow defs [] tt) u.reads
+            (subst (λ (ls : List Line). AreInPlace k well flow defs ls (begun Chain)) behind (places.sides.in_place k well judge)));
       };
     }
+
+-- such lines as they are written, of a chain in which every branch is followed
+pub calm_written : LinesAreJudged → LinesMakeWellMade → UnknownIsBounded → (flow : Flow) (defs : List Def) (d : Document) (written : List Line) → IsValid flow defs
+    → flow.heads ≡ [] → IsWhole flow defs d → d.count ≡ 0 → written ≡ under_header d.lines.items → IsFound flow defs false written
+calm_written judged makes unknown flow defs d written valid no_loops whole none same =
+    let calm : whole.stuck ≡ [] = nil_from_length whole.stuck (sym whole.counted ∙ none) in
+    let chain : IsShortChain flow defs d.lines.items [] = subst (λ (stuck : List Path). IsShortChain flow defs d.lines.items stuck) calm whole.chain in
+    subst (λ (ls : List Line). IsFound flow defs false ls) (sym same) (calm_is_found judged makes unknown flow defs d.lines.items valid no_loops chain whole.within whole.places)

@@ -1,5 +1,5 @@
 -- What is found of a flow graph.
-use Rattle.std.specs.Prelude.{◌≡◌, ◌<◌, ◌≤◌, ℕ, Bool, true, false, List, [], ◌∷◌, length, map}
+use Rattle.std.specs.Prelude.{◌≡◌, ◌<◌, ◌≤◌, ℕ, Bool, true, false, All, Contains, List, [], ◌∷◌, length, map}
 use Rattle.std.specs.List.{filter}
 use Rattle.mc_lines.specs.declared.cert.line.Line.{Line}
 use Rattle.mc_lines.specs.declared.cert.line.Line.TheVariants as line
@@ -9,7 +9,7 @@ use Rattle.mc_flow.specs.declared.graph.Flow.{Flow}
 use Rattle.mc_follow.specs.Alarms.Outcomes.{IsCrowded}
 use Rattle.mc_follow.specs.Alarms.Walks.{ended_by}
 use Rattle.mc_document.specs.Judge.Verdicts.{SpellAll}
-use Rattle.mc_document.specs.Places.{HasPlaces}
+use Rattle.mc_document.specs.Places.{FitsSides, cuts_of}
 use Rattle.mc_state.specs.declared.line.Form.TheVariants as forms
 use Rattle.mc_state.specs.declared.line.Version.TheVariants.{One}
 use Rattle.mc_kernel.specs.Branches.{Path}
@@ -24,49 +24,69 @@ use Rattle.mc_find.specs.declared.analysis.analysis.Findings.{Findings}
 use Rattle.mc_find.specs.declared.analysis.proposed.Proposed.{Proposed}
 use Rattle.mc_find.specs.declared.analysis.proposed.Proposed.TheVariants as proposed
 
--- the lines are a valid certificate as it is found: no more than 65,536 branches are ended, the cuts are the loop heads, and on
--- side branches no line stands but those that may
-pub record IsFound (flow : Flow) (defs : List Def) (lines : List Line) : Type 0 where
+-- ---- cuts
+
+-- each loop head is a cut of the lines; and where states are merged, so is each point where an `if` ends
+pub record HasCuts (flow : Flow) (merge : Bool) (lines : List Line) : Type 0 where
+  pub heads : All (Contains (cuts_of lines)) flow.heads
+  pub merges : merge ≡ true → All (Contains (cuts_of lines)) flow.merges
+
+-- the program has no loop, and no states are merged: every branch is followed to its end, and its alarms are those that are met so
+abbrev pub IsFollowedWhole : Flow → (merge : Bool) → Type 0
+IsFollowedWhole flow merge = (flow.heads ≡ []) × (merge ≡ false)
+
+-- ---- documents
+
+-- the lines are a valid certificate as it is found: no more than 65,536 branches are ended, the cuts are those that are asked for,
+-- and perhaps more, and on side branches no line stands but those that may
+pub record IsFound (flow : Flow) (defs : List Def) (merge : Bool) (lines : List Line) : Type 0 where
   pub valid : IsValidCertificate flow defs lines
   pub within : ended_by lines ≤ 65536
-  pub places : HasPlaces flow defs forms.Certificate lines
+  pub cuts : HasCuts flow merge lines
+  pub sides : FitsSides flow defs forms.Certificate lines
 
--- the lines are a chain of one pass as it is found: a branch is stuck, no more than 65,536 branches are ended, the cuts are the
--- loop heads, and on side branches no line stands but those that may
-pub record IsFoundChain (flow : Flow) (defs : List Def) (lines : List Line) : Type 0 where
+-- the lines are a chain of one pass as it is found: a branch is stuck, no more than 65,536 branches are ended, the cuts are those
+-- that are asked for, and perhaps more, and on side branches no line stands but those that may
+pub record IsFoundChain (flow : Flow) (defs : List Def) (merge : Bool) (lines : List Line) : Type 0 where
   pub stuck : List Path
   pub chain : IsShortChain flow defs lines stuck
   pub some : 0 < length stuck
   pub within : ended_by lines ≤ 65536
-  pub places : HasPlaces flow defs forms.Chain lines
+  pub cuts : HasCuts flow merge lines
+  pub sides : FitsSides flow defs forms.Chain lines
 
 -- the lines are such a chain, and the report is that of its heads and its stuck branches, unmarked, of which there are so many
-pub record IsReported (flow : Flow) (defs : List Def) (lines : List Line) (r : ChainReport) : Type 0 where
+pub record IsReported (flow : Flow) (defs : List Def) (merge : Bool) (lines : List Line) (r : ChainReport) : Type 0 where
   pub stuck : List Path
   pub chain : IsShortChain flow defs lines stuck
   pub within : ended_by lines ≤ 65536
-  pub places : HasPlaces flow defs forms.Chain lines
+  pub cuts : HasCuts flow merge lines
+  pub sides : FitsSides flow defs forms.Chain lines
   pub report : IsChainReport flow defs chain.heads (map unmarked stuck) r.text.items
   pub counted : r.count ≡ length stuck
   pub some : 0 < r.count
 
 -- what a search for alarms proposes is a certificate or a chain as it is found, a chain with its report
-abbrev pub IsProposed : Flow → List Def → Proposed → Type 0
-IsProposed flow defs (proposed.Certificate lines) = IsFound flow defs lines.items
-IsProposed flow defs (proposed.Chain lines report) = IsReported flow defs lines.items report
+abbrev pub IsProposed : Flow → List Def → (merge : Bool) → Proposed → Type 0
+IsProposed flow defs merge (proposed.Certificate lines) = IsFound flow defs merge lines.items
+IsProposed flow defs merge (proposed.Chain lines report) = IsReported flow defs merge lines.items report
+
+-- ---- findings
 
 -- the document spells a valid certificate as it is found, and the report is that of its heads
-pub record IsProved (flow : Flow) (defs : List Def) (f : Findings) : Type 0 where
+pub record IsProved (flow : Flow) (defs : List Def) (merge : Bool) (f : Findings) : Type 0 where
   pub lines : List Line
   pub spelled : SpellAll (lines_of f.document.items) lines
   pub valid : IsValidCertificate flow defs lines
   pub within : ended_by lines ≤ 65536
-  pub places : HasPlaces flow defs forms.Certificate lines
+  pub cuts : HasCuts flow merge lines
+  pub sides : FitsSides flow defs forms.Certificate lines
   pub report : IsCertificateReport flow defs valid.heads f.report.items
 
 -- the document spells a chain of one pass with so many stuck branches, of which no more than 65,536 branches are ended, with the
--- loop heads as its cuts, and the report is that of its heads and the stuck branches, which are marked where there are no loops
-pub record HasAlarms (flow : Flow) (defs : List Def) (f : Findings) (count : ℕ) : Type 0 where
+-- cuts that are asked for, and the report is that of its heads and the stuck branches; where every branch is followed to its end,
+-- there are no cuts, and the stuck branches are marked
+pub record HasAlarms (flow : Flow) (defs : List Def) (merge : Bool) (f : Findings) (count : ℕ) : Type 0 where
   pub lines : List Line
   pub stuck : List Path
   pub alarms : List Alarm
@@ -74,9 +94,11 @@ pub record HasAlarms (flow : Flow) (defs : List Def) (f : Findings) (count : ℕ
   pub spelled : SpellAll (lines_of f.document.items) lines
   pub chain : IsShortChain flow defs lines stuck
   pub within : ended_by lines ≤ 65536
-  pub places : HasPlaces flow defs forms.Chain lines
-  pub marked : flow.heads ≡ [] → AreMarked flow defs lines alarms
-  pub not_marked : (flow.heads ≡ [] → ⊥) → alarms ≡ map unmarked stuck
+  pub cuts : HasCuts flow merge lines
+  pub sides : FitsSides flow defs forms.Chain lines
+  pub uncut : IsFollowedWhole flow merge → cuts_of lines ≡ []
+  pub marked : IsFollowedWhole flow merge → AreMarked flow defs lines alarms
+  pub not_marked : (IsFollowedWhole flow merge → ⊥) → alarms ≡ map unmarked stuck
   pub report : IsChainReport flow defs chain.heads alarms f.report.items
   pub counted : count ≡ length stuck
   pub some : 0 < count
@@ -97,9 +119,9 @@ stays other = true
 abbrev pub under_header : List Line → List Line
 under_header lines = line.Header One forms.Certificate ∷ filter stays lines
 
--- what is found; where there are loops, a search may give up
-abbrev pub IsAnalysis : Flow → List Def → Analysis → Type 0
-IsAnalysis flow defs (Safe f) = IsProved flow defs f
-IsAnalysis flow defs (Alarms f count) = HasAlarms flow defs f count
-IsAnalysis flow defs (Paths document) = HasTooManyPaths flow defs document.items
-IsAnalysis flow defs Unknown = flow.heads ≡ [] → ⊥
+-- what is found; a search may give up, but not where every branch is followed to its end
+abbrev pub IsAnalysis : Flow → List Def → (merge : Bool) → Analysis → Type 0
+IsAnalysis flow defs merge (Safe f) = IsProved flow defs merge f
+IsAnalysis flow defs merge (Alarms f count) = HasAlarms flow defs merge f count
+IsAnalysis flow defs merge (Paths document) = HasTooManyPaths flow defs document.items
+IsAnalysis flow defs merge Unknown = IsFollowedWhole flow merge → ⊥

@@ -16,6 +16,6 @@ pub enum Analysis {
     Alarms(Findings, u64),
     /// The front of a chain of one pass, of which the last line ends the 65,537th branch.
     Paths(Vec<u8>),
-    /// Nothing was found, of a flow graph with loops.
+    /// Nothing was found, of a flow graph with loops or of one whose states are merged.
     Unknown,
 }

@@ -1,11 +1,12 @@
 // How a flow graph is analysed.
-ghost use Rattle.std.specs.Prelude.{◌≡◌, ◌<◌, [], IfOk};
+ghost use Rattle.std.specs.Prelude.{◌≡◌, ◌<◌, [], Bool, false, IfOk, IfSome};
 ghost use Rattle.mc_follow.specs.Alarms.Outcomes.{IsCrowded, IsWhole};
 ghost use Rattle.mc_flow.specs.Valid.{IsValid};
-ghost use Rattle.mc_find.specs.Analysis.Findings.{HasAlarms, HasTooManyPaths, IsAnalysis, IsFound, IsProposed, IsProved, IsReported, stays, under_header};
+ghost use Rattle.mc_kernel.specs.Certificates.{IsValidCertificate};
+ghost use Rattle.mc_find.specs.Analysis.Findings.{HasAlarms, HasTooManyPaths, IsAnalysis, IsFollowedWhole, IsFound, IsProposed, IsProved, IsReported, stays, under_header};
 
-use crate::analysis::{Analysis, Findings, Proposed};
-use crate::{Limits, search};
+use crate::analysis::{Analysis, Findings, Proposed, Settings};
+use crate::search;
 use mc_base::NoMemory;
 use mc_flow::{Defs, Flow};
 use mc_follow::alarms::{Document, Outcome, alarms};
@@ -17,13 +18,10 @@ use mc_lines::written::document;
 use mc_state::numbers_stay_bounded;
 use std::alloc::Global;
 
-/// How many lines an attempt may take.
-const LINES: u64 = 20_000;
-
 // The document of a certificate and its report.
 fn proved(alloc: Global, flow: &Flow, defs: &Defs, lines: &[Line]) -> Result<Findings, NoMemory>
-    requires { IsFound flow.now defs.now lines.now }
-    ensures { IfOk result (IsProved flow.now defs.now) }
+    requires { IsValidCertificate flow.now defs.now lines.now }
+    ensures { IfOk result (λ f. (merge : Bool) → IsFound flow.now defs.now merge lines.now → IsProved flow.now defs.now merge f) }
 {
     let report = certificate_report(alloc, flow, defs, lines)?;
     let document = document(alloc, lines)?;
@@ -35,7 +33,7 @@ fn alarming(alloc: Global, flow: &Flow, defs: &Defs, chain: Document) -> Result<
     requires no_loops { flow.now.heads ≡ [] }
     requires chain { IsWhole flow.now defs.now chain }
     requires some { 0 < chain.count }
-    ensures { IfOk result (λ f. HasAlarms flow.now defs.now f chain.count) }
+    ensures { IfOk result (λ f. HasAlarms flow.now defs.now false f chain.count) }
 {
     let document = document(alloc, chain.lines.as_slice())?;
     Ok(Findings {
@@ -49,12 +47,13 @@ fn reporting(
     alloc: Global,
     flow: &Flow,
     defs: &Defs,
+    merge: bool,
     lines: &[Line],
     report: ChainReport,
 ) -> Result<Findings, NoMemory>
-    requires loops { flow.now.heads ≡ [] → ⊥ }
-    requires reported { IsReported flow.now defs.now lines.now report }
-    ensures { IfOk result (λ f. HasAlarms flow.now defs.now f report.count) }
+    requires searched { IsFollowedWhole flow.now merge → ⊥ }
+    requires reported { IsReported flow.now defs.now merge lines.now report }
+    ensures { IfOk result (λ f. HasAlarms flow.now defs.now merge f report.count) }
 {
     let document = document(alloc, lines)?;
     Ok(Findings {
@@ -103,7 +102,7 @@ fn calm(alloc: Global, flow: &Flow, defs: &Defs, chain: Document) -> Result<Find
     requires no_loops { flow.now.heads ≡ [] }
     requires chain { IsWhole flow.now defs.now chain }
     requires none { chain.count ≡ 0 }
-    ensures { IfOk result (IsProved flow.now defs.now) }
+    ensures { IfOk result (IsProved flow.now defs.now false) }
 {
     // For the proof alone: a line that is an instance in the chain is read in the certificate.
     numbers_stay_bounded();
@@ -113,26 +112,79 @@ fn calm(alloc: Global, flow: &Flow, defs: &Defs, chain: Document) -> Result<Find
     proved(alloc, flow, defs, lines.as_slice())
 }
 
-// Where there are no loops, every branch is followed to its end.
-fn without_loops(alloc: Global, flow: &Flow, defs: &Defs) -> Result<Analysis, NoMemory>
+// What comes of a chain in which every branch is followed to its end.
+fn followed(alloc: Global, flow: &Flow, defs: &Defs, chain: Document) -> Result<Analysis, NoMemory>
     requires valid { IsValid flow.now defs.now }
     requires no_loops { flow.now.heads ≡ [] }
-    ensures { IfOk result (IsAnalysis flow.now defs.now) }
+    requires chain { IsWhole flow.now defs.now chain }
+    ensures { IfOk result (IsAnalysis flow.now defs.now false) }
 {
-    match alarms(alloc, flow, defs)? {
-        Outcome::Whole(chain) => {
-            if chain.count == 0 {
-                let findings = calm(alloc, flow, defs, chain)?;
-                return Ok(Analysis::Safe(findings));
-            }
-            let count = chain.count;
-            let findings = alarming(alloc, flow, defs, chain)?;
-            Ok(Analysis::Alarms(findings, count))
+    if chain.count == 0 {
+        let findings = calm(alloc, flow, defs, chain)?;
+        return Ok(Analysis::Safe(findings));
+    }
+    let count = chain.count;
+    let findings = alarming(alloc, flow, defs, chain)?;
+    Ok(Analysis::Alarms(findings, count))
+}
+
+// The lines of a certificate, where a search finds one; a chain that it finds counts for nothing.
+fn certificate(
+    alloc: Global,
+    flow: &Flow,
+    defs: &Defs,
+    settings: Settings,
+) -> Result<Option<Vec<Line>>, NoMemory>
+    requires { IsValid flow.now defs.now }
+    ensures { IfOk result (λ found. IfSome found (λ lines. IsFound flow.now defs.now settings.merge lines.items)) }
+{
+    match search(alloc, flow, defs, settings.limits())? {
+        Some(Proposed::Certificate(lines)) => Ok(Some(lines)),
+        Some(Proposed::Chain(_, _)) => Ok(None),
+        None => Ok(None),
+    }
+}
+
+// What comes of a program with so many branches that not all are followed: a certificate, where one is found whose cuts let
+// branches come together, or the front of the chain.
+fn with_many_paths(
+    alloc: Global,
+    flow: &Flow,
+    defs: &Defs,
+    settings: Settings,
+    lines: Vec<Line>,
+) -> Result<Analysis, NoMemory>
+    requires valid { IsValid flow.now defs.now }
+    requires crowded { IsCrowded flow.now defs.now lines.items }
+    ensures { IfOk result (IsAnalysis flow.now defs.now settings.merge) }
+{
+    match certificate(alloc, flow, defs, settings)? {
+        Some(found) => {
+            let findings = proved(alloc, flow, defs, found.as_slice())?;
+            Ok(Analysis::Safe(findings))
         }
-        Outcome::Paths(lines) => {
+        None => {
             let text = crowded(alloc, flow, defs, lines.as_slice())?;
             Ok(Analysis::Paths(text))
         }
+    }
+}
+
+// Where there are no loops, every branch is followed to its end.
+fn without_loops(
+    alloc: Global,
+    flow: &Flow,
+    defs: &Defs,
+    settings: Settings,
+) -> Result<Analysis, NoMemory>
+    requires valid { IsValid flow.now defs.now }
+    requires no_loops { flow.now.heads ≡ [] }
+    requires no_merge { settings.merge ≡ false }
+    ensures { IfOk result (IsAnalysis flow.now defs.now settings.merge) }
+{
+    match alarms(alloc, flow, defs)? {
+        Outcome::Whole(chain) => followed(alloc, flow, defs, chain),
+        Outcome::Paths(lines) => with_many_paths(alloc, flow, defs, settings, lines),
     }
 }
 
@@ -141,11 +193,12 @@ fn answered(
     alloc: Global,
     flow: &Flow,
     defs: &Defs,
+    merge: bool,
     proposed: Proposed,
 ) -> Result<Analysis, NoMemory>
-    requires loops { flow.now.heads ≡ [] → ⊥ }
-    requires proposed { IsProposed flow.now defs.now proposed }
-    ensures { IfOk result (IsAnalysis flow.now defs.now) }
+    requires searched { IsFollowedWhole flow.now merge → ⊥ }
+    requires proposed { IsProposed flow.now defs.now merge proposed }
+    ensures { IfOk result (IsAnalysis flow.now defs.now merge) }
 {
     match proposed {
         Proposed::Certificate(lines) => {
@@ -154,51 +207,42 @@ fn answered(
         }
         Proposed::Chain(lines, report) => {
             let count = report.count;
-            let findings = reporting(alloc, flow, defs, lines.as_slice(), report)?;
+            let findings = reporting(alloc, flow, defs, merge, lines.as_slice(), report)?;
             Ok(Analysis::Alarms(findings, count))
         }
     }
 }
 
-// Where there are loops, a certificate is searched for whose cuts have so many states at most, made in so many rounds, and else
-// a chain.
-fn with_loops(
+// Where there are loops, or states are merged, a certificate is searched for, and else a chain.
+fn searched(
     alloc: Global,
     flow: &Flow,
     defs: &Defs,
-    states: usize,
-    rounds: u64,
+    settings: Settings,
 ) -> Result<Analysis, NoMemory>
     requires valid { IsValid flow.now defs.now }
-    requires loops { flow.now.heads ≡ [] → ⊥ }
-    ensures { IfOk result (IsAnalysis flow.now defs.now) }
+    requires searched { IsFollowedWhole flow.now settings.merge → ⊥ }
+    ensures { IfOk result (IsAnalysis flow.now defs.now settings.merge) }
 {
-    let limits = Limits {
-        lines: LINES,
-        keys: states,
-        rounds,
-    };
-    match search(alloc, flow, defs, limits)? {
-        Some(proposed) => answered(alloc, flow, defs, proposed),
+    match search(alloc, flow, defs, settings.limits())? {
+        Some(proposed) => answered(alloc, flow, defs, settings.merge, proposed),
         None => Ok(Analysis::Unknown),
     }
 }
 
-/// Analyses a flow graph. A cut has about so many states at most, and an attempt walks from those that are new or have changed
-/// in so many rounds at most.
+/// Analyses a flow graph: one without loops branch by branch, unless its states are to be merged, and others by a search.
 pub fn analyse(
     alloc: Global,
     flow: &Flow,
     defs: &Defs,
-    states: usize,
-    rounds: u64,
+    settings: Settings,
 ) -> Result<Analysis, NoMemory>
     requires { IsValid flow.now defs.now }
-    ensures { IfOk result (IsAnalysis flow.now defs.now) }
+    ensures { IfOk result (IsAnalysis flow.now defs.now settings.merge) }
 {
-    if flow.heads.is_empty() {
-        without_loops(alloc, flow, defs)
+    if flow.heads.is_empty() && !settings.merge {
+        without_loops(alloc, flow, defs, settings)
     } else {
-        with_loops(alloc, flow, defs, states, rounds)
+        searched(alloc, flow, defs, settings)
     }
 }

@@ -11,6 +11,8 @@ pub struct Limits {
     pub lines: u64,
     pub keys: usize,
     pub rounds: u64,
+    /// Whether there is a cut at each point where an `if` ends.
+    pub merge: bool,
 }
 
 /// What an attempt is for.

@@ -10,7 +10,7 @@ use Rattle.mc_load.specs.Inputs.Texts.{IsWellFormed}
 use Rattle.mc_lower.specs.declared.lowering.Lowered.{Lowered}
 use Rattle.mc_load.specs.Lowered.Graphs.{IsGraphOf}
 use Rattle.mc_app.specs.Checks.{IsSafeUnit}
-use Rattle.mc_app.proofs.Meaning.{found_means}
+use Rattle.mc_app.proofs.Meaning.{found_here, found_means}
 use Rattle.mc_app.proofs.Real.{RealLaws, are_real}
 use Rattle.mc_app.proofs.Safe.{graph_faults, has_entry, safe_graph}
 use Rattle.mc_app.proofs.analysing.analyse_bound.Goals as goal
@@ -29,11 +29,11 @@ returns-in_ok-found-in-Ok-clause-why c =
     let graph = subst (λ (s : List ℕ). IsGraphOf s unit bound.defs flow) c.requires.start made in
     let short = only_ok c.in_ok-lowered.field-0 x (λ (y : Lowered). length y.flow.points ≤ 10000) c.in-Ok.is c.in_ok-lowered.ensures.short in
     let found = c.in_ok-found-in-Ok.found in
-    let is = subst (λ (ds : List Def). IsAnalysis flow ds found) c.defs-defs.ensures.same c.in_ok-found-in-Ok.ensures in
+    let is = found_here flow bound.defs c.defs-defs.result.now c.args.names.merge c.settings.result.merge found c.defs-defs.ensures.same c.settings.ensures c.in_ok-found-in-Ok.ensures in
     let valid = only_ok c.in_ok-lowered.field-0 x (λ (y : Lowered). IsValid y.flow bound.defs) c.in-Ok.is c.in_ok-lowered.ensures.valid in
     let comes = graph_faults c.faults_are_in_flow_graphs.ensures c.ascending_places_differ.ensures c.programs_have_distinct_places.ensures c.args.names.start.now unit bound.defs flow in
     let safe : (f : Findings) → found ≡ Safe f → IsSafeUnit c.args.names.start.now unit bound.defs = λ f e.
-    let proved = subst (λ (a : Analysis). IsAnalysis flow bound.defs a) e is in
+    let proved = subst (λ (a : Analysis). IsAnalysis flow bound.defs c.args.names.merge a) e is in
     safe_graph c.safe_flow_graphs_mean_safe_trees.ensures c.ascending_places_differ.ensures c.programs_have_distinct_places.ensures has_entry c.args.names.start.now unit bound.defs flow c.requires.well_formed graph
     (c.certificates_are_safe.ensures flow bound.defs proved.lines valid proved.valid) in
     let laws : RealLaws = record {
@@ -44,8 +44,8 @@ returns-in_ok-found-in-Ok-clause-why c =
       real = c.marked_alarms_are_real.ensures;
       closed = c.closed_programs_ask_for_malloc_alone.ensures;
     } in
-    let real = are_real laws c.args.names.start.now unit bound.defs flow c.requires.well_formed graph valid short in
-    let means = found_means c.args.names.start.now unit bound.defs flow (λ stuck only. comes stuck c.requires.well_formed graph only) c.last_pass_finds_faults.ensures valid real found safe is in
+    let real = are_real laws c.args.names.start.now unit bound.defs flow c.requires.well_formed graph valid short c.args.names.merge in
+    let means = found_means c.args.names.start.now unit bound.defs flow (λ stuck only. comes stuck c.requires.well_formed graph only) c.last_pass_finds_faults.ensures valid c.args.names.merge real found safe is in
     (flow, graph, short, (is, means))
 
 pub returns-in_ok-found-in-Ok-clause-safe : goal.returns-in_ok-found-in-Ok-clause-safe
@@ -58,7 +58,7 @@ returns-in_ok-found-in-Ok-clause-safe c = λ f good.
     let graph = subst (λ (s : List ℕ). IsGraphOf s unit bound.defs flow) c.requires.start made in
     let valid = only_ok c.in_ok-lowered.field-0 x (λ (y : Lowered). IsValid y.flow bound.defs) c.in-Ok.is c.in_ok-lowered.ensures.valid in
     let is : c.in_ok-found-in-Ok.found ≡ Safe f = cc in
-    let found = subst (λ (ds : List Def). IsAnalysis flow ds c.in_ok-found-in-Ok.found) c.defs-defs.ensures.same c.in_ok-found-in-Ok.ensures in
-    let proved = subst (λ (a : Analysis). IsAnalysis flow bound.defs a) is found in
+    let found = found_here flow bound.defs c.defs-defs.result.now c.args.names.merge c.settings.result.merge c.in_ok-found-in-Ok.found c.defs-defs.ensures.same c.settings.ensures c.in_ok-found-in-Ok.ensures in
+    let proved = subst (λ (a : Analysis). IsAnalysis flow bound.defs c.args.names.merge a) is found in
     let safe = c.certificates_are_safe.ensures flow bound.defs proved.lines valid proved.valid in
     safe_graph c.safe_flow_graphs_mean_safe_trees.ensures c.ascending_places_differ.ensures c.programs_have_distinct_places.ensures has_entry c.args.names.start.now unit bound.defs flow c.requires.well_formed graph safe

@@ -1,17 +1,20 @@
-use Rattle.mc_find.proofs.AcceptedLemmas.{line_differs, line_passed, lines_end}
+use Rattle.std.proofs.Common.{◌∙◌}
+use Rattle.mc_document.specs.Places.{cuts_of}
+use Rattle.mc_find.proofs.AcceptedLemmas.{all_told, moved, rest_told, some_missing}
 use Rattle.mc_find.proofs.accepted.has_cuts.Goals as goal
 
-pub loop-line-preserved : goal.loop-line-preserved
-loop-line-preserved c =
-    line_passed c.args.lines.now c.args.points.now c.loop-line.line-index c.loop-line.rest.now c.loop-line.invariant c.line-item.result
-    c.loop-line-test.true c.line-item.is c.in-Some.more.now c.in-Some.ensures
+pub returns-then-not-are_cuts : goal.returns-then-not-are_cuts
+returns-then-not-are_cuts c =
+    some_missing c.args.flow.now c.args.merge c.args.lines.now c.are_cuts.result c.if-not-are_cuts.true
+    (moved _ (cuts_of c.args.lines.now) _ c.args.flow.now.heads _ (c.as_slice.ensures.value ∙ c.in_ok-cuts.ensures) c.as_slice-2.ensures c.are_cuts.ensures)
 
-pub returns-in-None : goal.returns-in-None
-returns-in-None c =
-    line_differs c.args.lines.now c.args.points.now c.loop-line.line-index c.loop-line.rest.now c.loop-line.invariant c.line-item.result
-    c.loop-line-test.true c.line-item.is c.in-None.ensures
+pub returns-then-merge : goal.returns-then-merge
+returns-then-merge c =
+    rest_told c.args.flow.now c.args.merge c.args.lines.now c.if-merge.true c.are_cuts.result c.are_cuts-then-merge.result c.if-not-are_cuts.false
+    (moved _ (cuts_of c.args.lines.now) _ c.args.flow.now.heads _ (c.as_slice.ensures.value ∙ c.in_ok-cuts.ensures) c.as_slice-2.ensures c.are_cuts.ensures)
+    (moved _ (cuts_of c.args.lines.now) _ c.args.flow.now.merges _ (c.as_slice-then-merge.ensures.value ∙ c.in_ok-cuts.ensures) c.as_slice-then-merge-2.ensures c.are_cuts-then-merge.ensures)
 
 pub returns : goal.returns
 returns c =
-    lines_end c.args.lines.now c.args.points.now c.loop-line.line-index c.loop-line.rest.now c.loop-line.invariant c.is_empty.result
-    c.loop-line-test.false c.is_empty.ensures
+    all_told c.args.flow.now c.args.merge c.args.lines.now c.if-merge.false c.are_cuts.result c.if-not-are_cuts.false
+    (moved _ (cuts_of c.args.lines.now) _ c.args.flow.now.heads _ (c.as_slice.ensures.value ∙ c.in_ok-cuts.ensures) c.as_slice-2.ensures c.are_cuts.ensures)

@@ -14,11 +14,11 @@ returns-then-not-ends_few c = (
       absurd (cc clash)),
 )
 
-pub returns-then-not-has_cuts : goal.returns-then-not-has_cuts
-returns-then-not-has_cuts c = (
+pub returns-then-not-branch : goal.returns-then-not-branch
+returns-then-not-branch c = (
   λ yes. absurd (cc yes),
   λ found.
-      (let clash : false ≡ true = sym c.if-not-has_cuts.true ∙ c.has_cuts.ensures.1 (found.places.cuts ∙ sym c.as_slice.ensures) in
+      (let clash : false ≡ true = sym c.if-not-branch.true ∙ c.in_ok-has_cuts.ensures.1 found.cuts in
       absurd (cc clash)),
 )
 
@@ -26,9 +26,8 @@ pub returns : goal.returns
 returns c =
     let flow = c.args.flow.now in
     let defs = c.args.defs.now in
+    let merge = c.args.merge in
     let lines = c.args.lines.now in
-    IfOk-weaker c.is_certificate.result (λ (is : Bool). (is ≡ true) ↔ IsCertificateInPlace flow defs lines) (λ (is : Bool). (is ≡ true) ↔ IsFound flow defs lines)
-    (λ is told.
-    all_checked flow defs lines is (c.ends_few.ensures.0 c.if-not-ends_few.false)
-    (c.has_cuts.ensures.0 c.if-not-has_cuts.false ∙ c.as_slice.ensures) told)
+    IfOk-weaker c.is_certificate.result (λ (is : Bool). (is ≡ true) ↔ IsCertificateInPlace flow defs lines) (λ (is : Bool). (is ≡ true) ↔ IsFound flow defs merge lines)
+    (λ is told. all_checked flow defs merge lines is (c.ends_few.ensures.0 c.if-not-ends_few.false) (c.in_ok-has_cuts.ensures.0 c.if-not-branch.false) told)
     c.is_certificate.ensures

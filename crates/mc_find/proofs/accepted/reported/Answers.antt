@@ -10,14 +10,14 @@ returns-then-not-ends_few-clause-none c = λ none found.
     let clash : false ≡ true = sym c.if-not-ends_few.true ∙ c.ends_few.ensures.1 found.within in
     cc clash
 
-pub returns-then-not-has_cuts-clause-none : goal.returns-then-not-has_cuts-clause-none
-returns-then-not-has_cuts-clause-none c = λ none found.
-    let clash : false ≡ true = sym c.if-not-has_cuts.true ∙ c.has_cuts.ensures.1 (found.places.cuts ∙ sym c.as_slice.ensures) in
+pub returns-then-not-branch-clause-none : goal.returns-then-not-branch-clause-none
+returns-then-not-branch-clause-none c = λ none found.
+    let clash : false ≡ true = sym c.if-not-branch.true ∙ c.in_ok-has_cuts.ensures.1 found.cuts in
     cc clash
 
 pub returns-in_default-clause-none : goal.returns-in_default-clause-none
 returns-in_default-clause-none c = λ none.
-    no_chain_found c.args.flow.now c.args.defs.now c.args.lines.now (c.in_ok-report.ensures.none c.in_default.is)
+    no_chain_found c.args.flow.now c.args.defs.now c.args.merge c.args.lines.now (c.in_ok-report.ensures.none c.in_default.is)
 
 pub returns-then-report-eq0-clause-none : goal.returns-then-report-eq0-clause-none
 returns-then-report-eq0-clause-none c = λ none.
@@ -26,7 +26,7 @@ returns-then-report-eq0-clause-none c = λ none.
     let lines = c.args.lines.now in
     let report = c.in-Some.report in
     let told : IsReportOf flow defs lines report = subst (λ (found : Option ChainReport). IfSome found (IsReportOf flow defs lines)) c.in-Some.is c.in_ok-report.ensures.some in
-    no_stuck_found c.judges_are_there.ensures c.documents_are_read.ensures.chains flow defs lines report c.requires c.if-report-eq0.true told
+    no_stuck_found c.judges_are_there.ensures c.documents_are_read.ensures.chains flow defs c.args.merge lines report c.requires c.if-report-eq0.true told
 
 pub returns-clause-some : goal.returns-clause-some
 returns-clause-some c =
@@ -35,5 +35,5 @@ returns-clause-some c =
     let lines = c.args.lines.now in
     let report = c.in-Some.report in
     let told : IsReportOf flow defs lines report = subst (λ (found : Option ChainReport). IfSome found (IsReportOf flow defs lines)) c.in-Some.is c.in_ok-report.ensures.some in
-    chain_reported flow defs lines report (c.ends_few.ensures.0 c.if-not-ends_few.false) (c.has_cuts.ensures.0 c.if-not-has_cuts.false ∙ c.as_slice.ensures)
+    chain_reported flow defs c.args.merge lines report (c.ends_few.ensures.0 c.if-not-ends_few.false) (c.in_ok-has_cuts.ensures.0 c.if-not-branch.false)
     c.if-report-eq0.false told

@@ -10,5 +10,5 @@ with_parser r p = record r { parser = p }
 pub returns-clause-rule : goal.returns-clause-rule
 returns-clause-rule c =
     let given = c.value_parser.ensures.given in
-    let parsed : c.value_parser.result.value_parser ≡ Some (vp.Unsigned 1 c.args.most) = given.1 ∙ ap (λ (q : ValueParser). Some q) given.2 in
+    let parsed : c.value_parser.result.value_parser ≡ Some (vp.Unsigned c.args.least c.args.most) = given.1 ∙ ap (λ (q : ValueParser). Some q) given.2 in
     ap rule_of c.value_parser.ensures.others ∙ ap₂ with_parser c.option.ensures.rule parsed

@@ -2,12 +2,12 @@ use Rattle.std.proofs.Common.{◌≡◌, ◌∙◌, ap, refl, true, string_bytes
 use Rattle.clap.specs.Words.{app_of, found_of}
 use Rattle.clap.specs.Faults.{is_simple_and_free}
 use Rattle.clap.specs.Walk.{rows_of}
-use Rattle.mc_app.specs.Words.Commands.{analyse_app, two_files}
+use Rattle.mc_app.specs.Words.Commands.{analyse_app, search_app, two_files}
 use Rattle.mc_app.proofs.WordsLemmas.Asking.{no_analyse, read_by}
 use Rattle.mc_app.proofs.words.words.asked_analyse.Goals as goal
 
 is_free : is_simple_and_free analyse_app ≡ true
-unfolding analyse_app two_files
+unfolding analyse_app search_app two_files
 is_free = refl
 
 pub matches-requires : goal.matches-requires

@@ -1,6 +1,7 @@
-use Rattle.std.proofs.Common.{rules, ◌≡◌, List, subst}
+use Rattle.std.proofs.Common.{rules, ◌≡◌, ◌∙◌, List, refl, subst}
 use Rattle.mc_lines.specs.declared.cert.line.Line.{Line}
 use Rattle.mc_lines.specs.Written.Written.{IsWritten}
+use Rattle.mc_find.proofs.AcceptedLemmas.{none_asked}
 use Rattle.mc_find.proofs.AnalysisLemmas.Spelled.{spelled}
 use Rattle.mc_find.proofs.analysis.finding.alarming.Goals as goal
 
@@ -18,9 +19,11 @@ returns c =
       spelled = spelled chain.lines.items text written;
       chain = c.requires.chain.chain;
       within = c.requires.chain.within;
-      places = c.requires.chain.places;
-      marked = λ none. c.requires.chain.marked;
-      not_marked = λ loops. absurd (loops c.requires.no_loops);
+      cuts = none_asked c.args.flow.now chain.lines.items c.requires.no_loops;
+      sides = c.requires.chain.places.sides;
+      uncut = λ whole. c.requires.chain.places.cuts ∙ c.requires.no_loops;
+      marked = λ whole. c.requires.chain.marked;
+      not_marked = λ searched. absurd (searched (c.requires.no_loops, refl));
       report = c.requires.chain.report;
       counted = c.requires.chain.counted;
       some = c.requires.some;
