@@ -1,6 +1,7 @@
 pub mod Asked
 pub mod Causes
 pub mod Seeing
+pub mod Fronts
 pub mod Hearing
 pub mod Leaving
 pub mod Printing

@@ -136,7 +136,7 @@ pub fault_ends_demo : (words : List (List ℕ)) (fault : FileFault) (s : Status)
 fault_ends_demo words Failed s e n asks = inl e
 fault_ends_demo words NoMemory s e n asks = inr (inl e)
 
-not_refused : (holds : Holds) (words : List (List ℕ)) (r : Request) (refusal : Refusal) (n : ℕ) → Asks words r → IsRefusedFor holds r refusal → AsksDemo words n → ⊥
+pub not_refused : (holds : Holds) (words : List (List ℕ)) (r : Request) (refusal : Refusal) (n : ℕ) → Asks words r → IsRefusedFor holds r refusal → AsksDemo words n → ⊥
 not_refused holds words (request.Check c) refusal n too refused asks = no_demo_check words c n too asks
 not_refused holds words (request.Run r) refusal n too refused asks = no_demo_run words r n too asks
 not_refused holds words (request.Analyse a) refusal n too refused asks = no_demo_analysis words a n too asks

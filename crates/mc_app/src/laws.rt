@@ -2,6 +2,7 @@
 ghost use Rattle.std.specs.Prelude.{ℕ, List};
 ghost use Rattle.mc_app.specs.Alike.{AreJudgedAlike};
 ghost use Rattle.mc_app.specs.Answers.{IsWhyWords, status_of};
+ghost use Rattle.mc_app.specs.Demo.Ending.{DemosAreAnswered};
 ghost use Rattle.mc_app.specs.Statuses.{IsComplete, IsDecided};
 ghost use Rattle.mc_app.specs.declared.answer.Answer.{Answer};
 ghost use Rattle.mc_app.specs.declared.answer.Status.{Status};
@@ -48,3 +49,10 @@ pub fn closed_programs_are_decided()
 {
     closed_programs_ask_for_malloc_alone();
 }
+
+/// Where the words ask for programs that are made, what the top call says of its end, of fronts and of files means this: it ends
+/// well, unless the device failed or memory ran out; then it has printed the front of a text of these programs, or nothing; and
+/// every file is as it was.
+pub fn demos_are_answered()
+    ensures { DemosAreAnswered }
+{}

@@ -1,20 +1,19 @@
 -- Edges that are alike may be swapped in each cover, so of those that are not used only the first need be tried.
-use Rattle.std.proofs.Common.{◌≡◌, ◌≤◌, ◌<◌, ◌⊎◌, inl, inr, ℕ, zero, suc, ℤ, pos, Bool, true, false, not, ◌&&◌, Option, Some, None, List, [], ◌∷◌, ◌++◌, length, map, slice_get, refl, ap, sym, subst, ◌∙◌, arith, eqb-true, eq-eqb}
-use Rattle.std.specs.Prelude.{◌==◌, ◌||◌, ◌+ℤ◌, ◌-ℤ◌, neg_ℤ, is_some, option_map, option_and_then, if◌then◌else◌}
+use Rattle.std.proofs.Common.{◌≡◌, ◌<◌, ◌⊎◌, inl, inr, ℕ, zero, suc, ℤ, pos, Bool, true, false, not, ◌&&◌, Option, Some, None, List, [], ◌∷◌, length, map, slice_get, refl, ap, sym, subst, ◌∙◌, arith, eqb-true, eq-eqb}
+use Rattle.std.specs.Prelude.{◌==◌, ◌||◌, ◌+ℤ◌, ◌-ℤ◌, neg_ℤ, is_some, option_map, option_and_then}
 use Rattle.std.specs.List.{filter}
 use Rattle.std.proofs.lemmas.Int.{ints}
 use Rattle.mc_base.specs.declared.ids.EdgeId.{EdgeId}
 use Rattle.mc_base.specs.declared.ids.NodeId.{NodeId}
 use Rattle.mc_base.specs.declared.ids.StructId.{StructId}
 use Rattle.mc_base.specs.declared.plain.Atom.TheVariants.{Eq}
-use Rattle.mc_flow.specs.declared.defs.rules.Call.{Call}
 use Rattle.mc_flow.specs.declared.defs.rules.Def.{Def}
 use Rattle.mc_flow.specs.declared.defs.rules.Rule.{Rule}
 use Rattle.mc_pure.specs.Derived as pure
 use Rattle.mc_state.specs.declared.graph.edge.Edge.{Edge}
 use Rattle.mc_state.specs.declared.graph.edge.Edge.TheVariants.{Block, Ind, Seg}
 use Rattle.mc_state.specs.declared.terms.Term.{Term}
-use Rattle.mc_state.specs.Graph.Graph.{Edges, edge_with, IdsAscend}
+use Rattle.mc_state.specs.Graph.Graph.{edge_with, IdsAscend}
 use Rattle.mc_state.specs.Known.{Test, Tells, equal, all_equal}
 use Rattle.mc_state.specs.Lists.{all_both, on_some}
 use Rattle.mc_state.specs.State.{State}
@@ -28,13 +27,13 @@ use Rattle.mc_shape_search.proofs.SearchLemmas.Tries.{AreListed}
 use Rattle.mc_shape_search.proofs.SearchLemmas.Turned.{Turns, AllGo, all_go_self, turned_stands}
 use Rattle.mc_cover.specs.Alike.{start_alike, same_node, are_alike, AreAlike, MarksAlike}
 use Rattle.mc_cover.specs.Goals.{Goal, Mark, AtEnd, ByInd, BySeg, ByRule, ByCall, Setting, is_ind, is_seg, behind_seg, whole_block, contents_by}
-use Rattle.mc_cover.specs.Marks.{Named, named_with, named_by, def_at, rule_at, has_call, fits, calls_of, calls_of_rule, calls_of_rule_to, takes, space, marks}
+use Rattle.mc_cover.specs.Marks.{named_with, named_by, def_at, rule_at, has_call, fits, calls_of, calls_of_rule, calls_of_rule_to, takes, space, marks}
 use Rattle.mc_cover.specs.Near.{near_space}
 use Rattle.mc_cover.specs.Terms.{equal_terms, all_equal_terms}
 use Rattle.mc_cover.proofs.Listed.{ind_listed, seg_listed, rule_listed, whole_in, call_in}
 use Rattle.mc_cover.proofs.Near.{near_options}
 use Rattle.mc_cover.proofs.Options.{there}
-use Rattle.mc_cover.proofs.Parts.{ind_parts, seg_parts, rule_parts, call_parts, named_there, same_pred}
+use Rattle.mc_cover.proofs.Parts.{ind_parts, seg_parts, rule_parts, call_parts, named_there}
 
 -- ---- what is known of equal nodes
 module _ (know : Test) (s : State) (tells : Tells know s) where

@@ -12,6 +12,19 @@ use std::alloc::Global;
 /// How many blocks one after the other are looked at.
 const DOWNWARD: usize = 32;
 
+/// The most edges of a state in which arguments are guessed: a guess may call itself once for each.
+const DEEPEST: usize = 500;
+
+/// The most nodes to which the ways down from a node may lead, each way counted: a guess takes them all.
+const MOST: usize = 2_000;
+
+/// A node to which a way down leads, and how many blocks lie before it.
+#[derive(Clone, Copy)]
+struct Below {
+    node: NodeId,
+    depth: usize,
+}
+
 /// A block by its place, with a rule and the first call of the predicate there.
 #[derive(Clone, Copy)]
 struct Body {
@@ -114,6 +127,63 @@ fn call_node(
         }
         None => Ok(None),
     }
+}
+
+/// Adds the nodes at which the calls of a body stand.
+fn push_calls(
+    alloc: Global,
+    open: &mut Vec<Below>,
+    state: &State,
+    pred: PredId,
+    def: &Def,
+    from: Below,
+) -> Result<(), NoMemory> {
+    if args_at(state, pred, from.node).is_some() {
+        return Ok(());
+    }
+    let Some(body) = body_at(state, pred, def, from.node) else {
+        return Ok(());
+    };
+    let names = names_at(alloc, state, def, body)?;
+    let Some(rule) = def.rules.as_slice().get(body.rule) else {
+        return Ok(());
+    };
+    for call in rule.calls.as_slice() {
+        if call.pred == pred {
+            if let Some(term) = known_name(names.as_slice(), call.at) {
+                open.push(Below {
+                    node: term.node,
+                    depth: from.depth.saturating_add(1),
+                })?;
+            }
+        }
+    }
+    Ok(())
+}
+
+/// Whether a guess at a node ends soon: the state has few edges, and few ways lead down from there. Where blocks share
+/// what lies below them there may be more ways than any computer can go.
+pub fn ends_soon(
+    alloc: Global,
+    state: &State,
+    pred: PredId,
+    def: &Def,
+    at: NodeId,
+) -> Result<bool, NoMemory> {
+    let edges = state.edges().len();
+    if edges > DEEPEST {
+        return Ok(false);
+    }
+    let mut open = vec![in alloc; Below { node: at, depth: 0 }]?;
+    for _ in 0..MOST {
+        let Some(next) = open.pop() else {
+            return Ok(true);
+        };
+        if next.depth < edges {
+            push_calls(alloc, &mut open, state, pred, def, next)?;
+        }
+    }
+    Ok(open.is_empty())
 }
 
 /// The parameters among names.

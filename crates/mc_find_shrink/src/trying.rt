@@ -1,6 +1,6 @@
 // The arguments with which a predicate is tried at a node.
 use crate::asked::{args_at, push_asked};
-use crate::guessing::second_guess;
+use crate::guessing::{ends_soon, second_guess};
 use mc_base::{EdgeId, Items, Kind, NoMemory, NodeId, PredId};
 use mc_find_paths::trail::plain;
 use mc_find_view::guess::guess;
@@ -120,9 +120,10 @@ pub fn candidates(
         return Ok(list);
     }
     push_asked(alloc, &mut list, state, pred, def, at)?;
+    let soon = ends_soon(alloc, state, pred, def, at)?;
     if let Some(term) = end {
         let stop = stop_at(alloc, state, pred, term)?;
-        if stop.is_some() {
+        if soon && stop.is_some() {
             let terms = guess(alloc, state, defs, used, pred, plain(at), &stop)?;
             push_new(&mut list, with_room(alloc, def, terms, room)?)?;
         }
@@ -132,8 +133,10 @@ pub fn candidates(
             push_new(&mut list, with_room(alloc, def, terms, room)?)?;
         }
     }
-    let terms = guess(alloc, state, defs, used, pred, plain(at), &None)?;
-    push_new(&mut list, with_room(alloc, def, terms, room)?)?;
+    if soon {
+        let terms = guess(alloc, state, defs, used, pred, plain(at), &None)?;
+        push_new(&mut list, with_room(alloc, def, terms, room)?)?;
+    }
     let terms = second_guess(alloc, state, pred, def, at, None)?;
     push_new(&mut list, with_room(alloc, def, terms, room)?)?;
     push_asserted(alloc, &mut list, state, asserted, pred)?;

@@ -37,17 +37,17 @@ pub fn rule_of(defs: &Defs, pred: PredId, place: usize) -> Option<&Rule>
 // Puts what calls ask for on a stack, the first one at the top.
 fn push_calls(
     alloc: Global,
-    open: &mut Vec<Goal>,
+    left: &mut Vec<Goal>,
     names: &[Term],
     calls: &[Call],
 ) -> Result<(), NoMemory>
-    ensures { OnOk result (reverse open.new.items ≡ map (goal_of names.now None) calls.now ++ reverse open.old.items) }
+    ensures { OnOk result (reverse left.new.items ≡ map (goal_of names.now None) calls.now ++ reverse left.old.items) }
 {
     let mut i = calls.len();
     while i > 0 {
         i -= 1;
         let goal = goal_of(alloc, names, None, &calls[i])?;
-        open.push(goal)?;
+        left.push(goal)?;
     }
     Ok(())
 }
@@ -74,10 +74,10 @@ fn behind(alloc: Global, goal: &Goal, edge: Option<&Edge>) -> Result<Goal, NoMem
 }
 
 // Takes the goal on top of the stack.
-fn take_goal(open: &mut Vec<Goal>) -> Option<Goal>
-    ensures { MatchOption result (reverse open.old.items ≡ []) (λ goal. reverse open.old.items ≡ goal ∷ reverse open.new.items) }
+fn take_goal(left: &mut Vec<Goal>) -> Option<Goal>
+    ensures { MatchOption result (reverse left.old.items ≡ []) (λ goal. reverse left.old.items ≡ goal ∷ reverse left.new.items) }
 {
-    open.pop()
+    left.pop()
 }
 
 // Puts what a segment leaves on the stack.
@@ -86,15 +86,15 @@ fn open_seg(
     state: &State,
     goal: &Goal,
     seg: EdgeId,
-    open: &mut Vec<Goal>,
+    left: &mut Vec<Goal>,
 ) -> Result<(), NoMemory>
     requires { (know : Test) × (is_seg know goal.now (edge_with state.now.graph.edges seg) ≡ true) }
     ensures { OnOk result ((next : _) ×
         (behind_seg (record goal.now { stop = None }) (edge_with state.now.graph.edges seg) ≡ next ∷ [])
-        × (reverse open.new.items ≡ next ∷ reverse open.old.items)) }
+        × (reverse left.new.items ≡ next ∷ reverse left.old.items)) }
 {
     let next = behind(alloc, goal, state.edge(seg))?;
-    open.push(next)?;
+    left.push(next)?;
     Ok(())
 }
 
@@ -106,13 +106,13 @@ fn open_rule(
     goal: &Goal,
     place: usize,
     block: Option<EdgeId>,
-    open: &mut Vec<Goal>,
+    left: &mut Vec<Goal>,
 ) -> Result<Vec<Term>, NoMemory>
     requires { (know : Test) × (fits (setting_in know defs.now state.now) goal.now (mark.ByRule place block) ≡ true) }
     ensures { IfOk result (λ names. (know : Test)
         → fits (setting_in know defs.now state.now) goal.now (mark.ByRule place block) ≡ true
         → IsOpenedBy (setting_in know defs.now state.now) goal.now (mark.ByRule place block) names.items
-        (reverse open.new.items) (reverse open.old.items)) }
+        (reverse left.new.items) (reverse left.old.items)) }
 {
     let rule = match rule_of(defs, goal.pred, place) {
         Some(rule) => rule,
@@ -122,7 +122,7 @@ fn open_rule(
         Some(names) => names,
         None => unreachable!(),
     };
-    push_calls(alloc, open, &names, rule.calls.as_slice())?;
+    push_calls(alloc, left, &names, rule.calls.as_slice())?;
     Ok(names)
 }
 
@@ -133,21 +133,21 @@ fn open_mark(
     defs: &Defs,
     goal: &Goal,
     mark: Mark,
-    open: &mut Vec<Goal>,
+    left: &mut Vec<Goal>,
 ) -> Result<Vec<Term>, NoMemory>
     requires fits { (know : Test) × (fits (setting_in know defs.now state.now) goal.now mark ≡ true) }
     requires plain { goal.now.stop ≡ None }
     ensures { IfOk result (λ names. (know : Test) → fits (setting_in know defs.now state.now) goal.now mark ≡ true
         → goal.now.stop ≡ None → IsOpenedBy (setting_in know defs.now state.now) goal.now mark names.items
-        (reverse open.new.items) (reverse open.old.items)) }
+        (reverse left.new.items) (reverse left.old.items)) }
 {
     match mark {
         Mark::ByInd(_) => Ok(Vec::new(alloc)),
         Mark::BySeg(seg) => {
-            open_seg(alloc, state, goal, seg, open)?;
+            open_seg(alloc, state, goal, seg, left)?;
             Ok(Vec::new(alloc))
         }
-        Mark::ByRule { place, block } => open_rule(alloc, state, defs, goal, place, block, open),
+        Mark::ByRule { place, block } => open_rule(alloc, state, defs, goal, place, block, left),
         Mark::AtEnd => unreachable!(),
         Mark::ByCall { .. } => unreachable!(),
     }
@@ -169,15 +169,15 @@ pub fn all_met(
     // For the proof alone: a test tells what is entailed in the state.
     each_is_decided();
     state.is_bounded();
-    let mut open = Vec::new(alloc);
-    open.push(first)?;
+    let mut left = Vec::new(alloc);
+    left.push(first)?;
     let mut mets = Vec::new(alloc);
     for mark in marks {
-        let goal = match take_goal(&mut open) {
+        let goal = match take_goal(&mut left) {
             Some(goal) => goal,
             None => unreachable!(),
         };
-        let names = open_mark(alloc, state, defs, &goal, *mark, &mut open)?;
+        let names = open_mark(alloc, state, defs, &goal, *mark, &mut left)?;
         mets.push(Met {
             goal,
             mark: *mark,

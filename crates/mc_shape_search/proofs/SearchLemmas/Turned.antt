@@ -1,6 +1,6 @@
 -- A search in which marks are turned into others that do the same: what meets goals, turned, meets the same goals.
-use Rattle.std.proofs.Common.{◌≡◌, ℕ, zero, suc, List, [], ◌∷◌, ◌++◌, Bool, ◌&&◌, true, false, Option, Some, None, map, refl, sym, ◌∙◌, ap, subst}
-use Rattle.mc_shape_search.specs.Search.Search.{Space, tries, first, applies, is_free}
+use Rattle.std.proofs.Common.{◌≡◌, ℕ, zero, suc, List, [], ◌∷◌, ◌++◌, Bool, ◌&&◌, true, false, Option, Some, None, map, refl, ◌∙◌, ap, subst}
+use Rattle.mc_shape_search.specs.Search.Search.{Space, first, applies, is_free}
 use Rattle.mc_shape_search.specs.Search.Met.{Leads}
 use Rattle.mc_shape_search.specs.Tries.Stack.{branch}
 use Rattle.mc_shape_search.specs.Tries.Thin.{StandsFor}

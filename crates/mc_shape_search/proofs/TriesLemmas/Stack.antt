@@ -1,7 +1,7 @@
 -- The stack's tries do not change as the arena grows, nor with the log above them.
-use Rattle.std.proofs.Common.{◌≡◌, ℕ, zero, suc, ◌+◌, ◌-◌, ◌<◌, ◌≤◌, ◌^◌, List, [], ◌∷◌, ◌++◌, Bool, true, false, Option, Some, None, length, reverse, take, refl, sym, ◌∙◌, ap, arith, append_assoc, length-append}
+use Rattle.std.proofs.Common.{◌≡◌, ℕ, zero, suc, ◌+◌, ◌-◌, ◌<◌, ◌≤◌, ◌^◌, List, [], ◌∷◌, ◌++◌, true, false, Option, Some, None, length, take, refl, sym, ◌∙◌, ap, arith, length-append}
 use Rattle.std.proofs.Math.Seq.{take-length}
-use Rattle.std.proofs.lemmas.List.{reverse-append, length-take-le, take-append-le, take-take, append-nil}
+use Rattle.std.proofs.lemmas.List.{length-take-le, take-append-le, take-take, append-nil}
 use Rattle.std.specs.List.{filter, flat_map}
 use Rattle.mc_shape_search.specs.declared.tries.Cell.{Cell}
 use Rattle.mc_shape_search.specs.declared.tries.Pending.{Pending}

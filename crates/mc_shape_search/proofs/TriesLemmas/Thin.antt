@@ -1,10 +1,10 @@
 -- Lists of tries from which some are left out.
-use Rattle.std.proofs.Common.{◌≡◌, ℕ, zero, suc, ◌+◌, ◌-◌, ◌<◌, ◌≤◌, List, [], ◌∷◌, ◌++◌, inl, inr, Bool, ◌&&◌, true, false, Option, Some, None, length, get_or, take, refl, sym, ◌∙◌, ap, arith, append_assoc, length-append}
+use Rattle.std.proofs.Common.{◌≡◌, ℕ, zero, suc, ◌<◌, ◌≤◌, List, [], ◌∷◌, ◌++◌, inl, inr, Bool, ◌&&◌, true, false, Option, Some, None, length, get_or, take, refl, sym, ◌∙◌, ap, arith, append_assoc, length-append}
 use Rattle.std.specs.List.{filter, flat_map}
 use Rattle.mc_shape_search.specs.Search.Met.{IsIn}
 use Rattle.mc_shape_search.specs.Search.Search.{Space, first, applies, is_free}
 use Rattle.mc_shape_search.specs.Tries.Stack.{branch}
-use Rattle.mc_shape_search.specs.Tries.Thin.{Thins, StandsFor, IsSpare}
+use Rattle.mc_shape_search.specs.Tries.Thin.{Thins, IsSpare}
 use Rattle.mc_shape_search.proofs.SearchLemmas.Members.{filter_yes, filter_no, bool_cases}
 
 module _ {X : Type 0} where

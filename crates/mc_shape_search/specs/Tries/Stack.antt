@@ -1,5 +1,5 @@
 -- The stack of a search, read as tries. The arena of goals and the stack stand newest first.
-use Rattle.std.specs.Prelude.{◌≡◌, ℕ, suc, ◌-◌, ◌<◌, ◌≤◌, ◌^◌, List, [], ◌∷◌, ◌++◌, true, false, nat_eq, Option, None, length, take}
+use Rattle.std.specs.Prelude.{◌≡◌, ℕ, suc, ◌-◌, ◌≤◌, ◌^◌, List, [], ◌∷◌, ◌++◌, true, false, nat_eq, Option, length, take}
 use Rattle.std.specs.List.{flat_map}
 use Rattle.mc_shape_search.specs.Search.Search.{Space, tries, is_free}
 use Rattle.mc_shape_search.specs.declared.tries.Cell.{Cell}

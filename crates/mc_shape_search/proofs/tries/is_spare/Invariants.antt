@@ -1,4 +1,3 @@
-use Rattle.std.proofs.Common.{◌≡◌}
 use Rattle.mc_shape_search.proofs.tries.is_spare.Given as goal
 
 abbrev pub invariant-loop-j : goal.invariant-loop-j

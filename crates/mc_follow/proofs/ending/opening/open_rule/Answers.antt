@@ -12,7 +12,7 @@ returns c = λ know f.
     let pushed = c.in_ok-push_calls.ensures in
     let value = c.deref.ensures.value in
     let slice = c.as_slice.ensures in
-    let e : reverse c.push_calls.new.open.items ≡ map (goal_of c.in-Some-2.names.items None) rule.calls ++ reverse c.args.open.now.items = grind (arith, pushed, value, slice) in
+    let e : reverse c.push_calls.new.left.items ≡ map (goal_of c.in-Some-2.names.items None) rule.calls ++ reverse c.args.left.now.items = grind (arith, pushed, value, slice) in
     rule_opened (setting_in know c.args.defs.now c.args.state.now) h c.args.place c.args.block rule r.0 c.in-Some-2.names.items _ _ f r.1 r.2
     (λ contents is.
     let two : Some c.in-Some-2.names.items ≡ Some (names_at h rule contents) = sym (ap (option_map (λ v. v.items)) c.in-Some-2.is) ∙ c.in_ok-names.ensures know contents is in

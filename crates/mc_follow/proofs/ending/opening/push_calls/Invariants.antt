@@ -5,7 +5,7 @@ use Rattle.mc_follow.proofs.ending.opening.push_calls.Given as goal
 abbrev pub invariant-loop-i : goal.invariant-loop-i
 invariant-loop-i l = record {
   within : l.i ≤ length l.calls;
-  pushed : reverse l.open.items ≡ map (goal_of l.names None) (drop l.i l.calls) ++ reverse l.fn.open.items;
+  pushed : reverse l.left.items ≡ map (goal_of l.names None) (drop l.i l.calls) ++ reverse l.fn.left.items;
 }
 
 abbrev pub decreases-loop-i : goal.decreases-loop-i
