@@ -1,7 +1,8 @@
 -- Lists side by side, past the end of one.
-use Rattle.std.proofs.Common.{◌≡◌, ◌<◌, ◌≤◌, ◌+◌, ◌++◌, ℕ, List, [], ◌∷◌, Option, Some, None, drop, get_or, length, map, refl, sym, ap, ap₂, ◌∙◌}
+use Rattle.std.proofs.Common.{◌≡◌, ◌<◌, ◌≤◌, ◌+◌, ◌++◌, ℕ, List, [], ◌∷◌, Option, Some, None, drop, get_or, length, map, refl, sym, ap, ap₂, subst, ◌∙◌}
 use Rattle.std.proofs.lemmas.List.{drop_more}
 use Rattle.std.specs.Prelude.{zip}
+use Rattle.std.specs.List.{AllByRecursion}
 use Rattle.mc_base.specs.declared.ids.NodeId.{NodeId}
 use Rattle.mc_state.specs.declared.line.Side.{Side}
 use Rattle.mc_state.specs.declared.terms.Term.{Term}
@@ -49,3 +50,12 @@ module _ (f : NodeId → NodeId → NodeId) (ls rs : List NodeId) (i : ℕ) (l r
       ∙ (ap₂ (λ (x y : List NodeId). ns ++ map by_pair (zip x y)) (drop_more ls i l below) (drop_more rs i r within)
       ∙ (shift ns (f (get_or ls i l) (get_or rs i r)) rest
       ∙ ap (λ (z : List NodeId). z ++ rest) (sym (all ∙ ap (λ (z : NodeId). ns ++ z ∷ []) (is ∙ ap (λ (z : NodeId). f (get_or ls i l) z) other)))))
+
+-- ---- what holds of each
+
+module _ {X : Type 0} (P : X → Type 0) (xs : List X) (i : ℕ) where
+  pub all_more : (x : X) → i < length xs → P (get_or xs i x) → (AllByRecursion P (drop i xs) → AllByRecursion P xs) → AllByRecursion P (drop (i + 1) xs) → AllByRecursion P xs
+  all_more x l here before rest = before (subst (λ (z : List X). AllByRecursion P z) (sym (drop_more xs i x l)) (here, rest))
+
+  pub all_end : length xs ≤ i → (AllByRecursion P (drop i xs) → AllByRecursion P xs) → AllByRecursion P xs
+  all_end l before = before (subst (λ (z : List X). AllByRecursion P z) (sym (drop_none xs i l)) tt)

@@ -56,7 +56,9 @@ fn first_pairs(alloc: Global, left: &State, right: &State) -> Result<Vec<Pair>, 
 
 /// A join of two states that begins. Each of the states is copied.
 pub fn begin(alloc: Global, left: &State, right: &State) -> Result<Joining, NoMemory>
-    ensures { IfOk result (λ j. seen j ≡ begun left.now right.now) }
+    ensures seen { IfOk result (λ j. seen j ≡ begun left.now right.now) }
+    ensures left { IfOk result (λ j. j.left.state ≡ left.now) }
+    ensures right { IfOk result (λ j. j.right.state ≡ right.now) }
 {
     let pairs = first_pairs(alloc, left, right)?;
     Ok(Joining {
