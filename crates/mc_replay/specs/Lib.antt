@@ -1,0 +1,6 @@
+pub mod Seen
+pub mod Named
+pub mod Covers
+pub mod Joined
+pub mod Forms
+pub mod Good

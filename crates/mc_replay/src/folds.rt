@@ -1,0 +1,426 @@
+// What a side gives to a step: an edge as it is, edges that are folded, or an empty segment.
+ghost use Rattle.std.specs.Prelude.{OnOk};
+ghost use Rattle.mc_replay.specs.Good.{AreGood};
+ghost use Rattle.mc_replay.specs.Named.{IsGood};
+
+use crate::covers::{cover_edges, partner_or_terms, plain_all, seg_edges, standing_args};
+use crate::joining::{Half, Joining};
+use crate::made::args_of;
+use crate::naming::{can_name, can_name_both, name_args};
+use crate::pairs::{Pair, across, of_side};
+use mc_base::{EdgeId, Items, NoMemory, NodeId, PredId};
+use mc_cover::search::plain;
+use mc_find_view::guess::guess;
+use mc_flow::defs::Defs;
+use mc_state::graph::Edge;
+use mc_state::{Side, Term};
+use std::alloc::Global;
+
+/// What a side gives: the edge that is joined, and the edges that it uses.
+#[derive(Drop)]
+pub struct Part {
+    pub edge: Edge,
+    pub used: Vec<EdgeId>,
+}
+
+/// Edges of a side that are folded into an Ind at a node: its arguments, and the edges that it uses.
+#[derive(Drop)]
+pub struct IndFold {
+    pub args: Vec<Term>,
+    pub used: Vec<EdgeId>,
+}
+
+/// Edges of a side that are folded into a Seg to a node: its arguments, those at its end, and the edges that it uses.
+#[derive(Drop)]
+pub struct SegFold {
+    pub args: Vec<Term>,
+    pub end: NodeId,
+    pub ends: Vec<Term>,
+    pub used: Vec<EdgeId>,
+}
+
+/// An edge as it is.
+pub fn as_it_is(alloc: Global, entry: &(EdgeId, Edge)) -> Result<Part, NoMemory> {
+    let mut used = Vec::new(alloc);
+    used.push(entry.0)?;
+    Ok(Part {
+        edge: entry.1.copy(alloc)?,
+        used,
+    })
+}
+
+/// An empty segment at a side's node, with the same arguments at both ends.
+pub fn empty_seg(
+    alloc: Global,
+    half: &Half,
+    defs: &Defs,
+    pred: PredId,
+    at: NodeId,
+) -> Result<Part, NoMemory> {
+    let nodes = standing_args(alloc, &half.state, defs, half.used.as_slice(), pred, at)?;
+    Ok(Part {
+        edge: Edge::Seg {
+            at,
+            args: args_of(alloc, nodes.as_slice())?,
+            pred,
+            end: at,
+            end_args: args_of(alloc, nodes.as_slice())?,
+        },
+        used: Vec::new(alloc),
+    })
+}
+
+/// What is guessed at a side's node.
+fn guessed(
+    alloc: Global,
+    half: &Half,
+    defs: &Defs,
+    pred: PredId,
+    at: NodeId,
+) -> Result<Vec<Term>, NoMemory> {
+    guess(
+        alloc,
+        &half.state,
+        defs,
+        half.used.as_slice(),
+        pred,
+        plain(at),
+        &None,
+    )
+}
+
+/// What is guessed at a side's node, where a segment from it is to end at another.
+fn guessed_to(
+    alloc: Global,
+    half: &Half,
+    defs: &Defs,
+    pred: PredId,
+    at: NodeId,
+    end: NodeId,
+    ends: &[Term],
+) -> Result<Vec<Term>, NoMemory> {
+    let stop = Some((plain(end), Items::of(Vec::from_slice(alloc, ends)?)));
+    guess(
+        alloc,
+        &half.state,
+        defs,
+        half.used.as_slice(),
+        pred,
+        plain(at),
+        &stop,
+    )
+}
+
+/// The edges of a side that make a predicate at a node, of those that are not blocked.
+fn cover_in(
+    alloc: Global,
+    half: &Half,
+    defs: &Defs,
+    blocked: &[EdgeId],
+    pred: PredId,
+    at: NodeId,
+    args: &[Term],
+) -> Result<Option<Vec<EdgeId>>, NoMemory>
+    requires { IsGood half.now.state }
+{
+    cover_edges(alloc, &half.state, defs, blocked, pred, at, args)
+}
+
+/// Those that make a segment of it from a node to another.
+fn seg_in(
+    alloc: Global,
+    half: &Half,
+    defs: &Defs,
+    blocked: &[EdgeId],
+    pred: PredId,
+    at: NodeId,
+    args: &[Term],
+    end: NodeId,
+    ends: &[Term],
+) -> Result<Option<Vec<EdgeId>>, NoMemory>
+    requires { IsGood half.now.state }
+{
+    seg_edges(alloc, &half.state, defs, blocked, pred, at, args, end, ends)
+}
+
+/// The fold of a side's free edges into an Ind with these arguments.
+fn ind_fold(
+    alloc: Global,
+    join: &Joining,
+    defs: &Defs,
+    side: Side,
+    pair: &Pair,
+    pred: PredId,
+    args: Vec<Term>,
+) -> Result<Option<IndFold>, NoMemory>
+    requires { AreGood join.now }
+{
+    let blocked = join.blocked(alloc, side, pair)?;
+    let half = join.half(side);
+    let at = of_side(side, pair);
+    match cover_in(
+        alloc,
+        half,
+        defs,
+        blocked.as_slice(),
+        pred,
+        at,
+        args.as_slice(),
+    )? {
+        Some(used) => Ok(Some(IndFold { args, used })),
+        None => Ok(None),
+    }
+}
+
+/// The fold of a side's free edges into an Ind with guessed arguments.
+pub fn guessed_ind(
+    alloc: Global,
+    join: &Joining,
+    defs: &Defs,
+    side: Side,
+    pair: &Pair,
+    pred: PredId,
+) -> Result<Option<IndFold>, NoMemory>
+    requires { AreGood join.now }
+{
+    let args = guessed(alloc, join.half(side), defs, pred, of_side(side, pair))?;
+    ind_fold(alloc, join, defs, side, pair, pred, args)
+}
+
+/// The fold of the other side's free edges into an Ind for an Ind of a side with these arguments: of an argument that is
+/// in a pair its first partner, of any other what is guessed.
+pub fn ind_for(
+    alloc: Global,
+    join: &Joining,
+    defs: &Defs,
+    side: Side,
+    pair: &Pair,
+    pred: PredId,
+    args: &[NodeId],
+) -> Result<Option<IndFold>, NoMemory>
+    requires { AreGood join.now }
+{
+    let other = across(side);
+    let found = guessed(alloc, join.half(other), defs, pred, of_side(other, pair))?;
+    let terms = partner_or_terms(alloc, join.pairs.as_slice(), side, args, found.as_slice())?;
+    ind_fold(alloc, join, defs, other, pair, pred, terms)
+}
+
+/// The fold of a side's free edges into a Seg to a node with end arguments, where its arguments are guessed.
+fn seg_fold(
+    alloc: Global,
+    join: &Joining,
+    defs: &Defs,
+    side: Side,
+    pair: &Pair,
+    pred: PredId,
+    end: NodeId,
+    ends: Vec<Term>,
+) -> Result<Option<SegFold>, NoMemory>
+    requires { AreGood join.now }
+{
+    let half = join.half(side);
+    let at = of_side(side, pair);
+    let args = guessed_to(alloc, half, defs, pred, at, end, ends.as_slice())?;
+    let blocked = join.blocked(alloc, side, pair)?;
+    match seg_in(
+        alloc,
+        half,
+        defs,
+        blocked.as_slice(),
+        pred,
+        at,
+        args.as_slice(),
+        end,
+        ends.as_slice(),
+    )? {
+        Some(used) => Ok(Some(SegFold {
+            args,
+            end,
+            ends,
+            used,
+        })),
+        None => Ok(None),
+    }
+}
+
+/// The fold of a side's free edges into a Seg to another pair's node, where the end arguments are those of an edge there.
+pub fn seg_to(
+    alloc: Global,
+    join: &Joining,
+    defs: &Defs,
+    side: Side,
+    pair: &Pair,
+    pred: PredId,
+    end: NodeId,
+) -> Result<Option<SegFold>, NoMemory>
+    requires { AreGood join.now }
+{
+    let half = join.half(side);
+    let nodes = standing_args(alloc, &half.state, defs, half.used.as_slice(), pred, end)?;
+    let ends = plain_all(alloc, nodes.as_slice())?;
+    seg_fold(alloc, join, defs, side, pair, pred, end, ends)
+}
+
+/// The same for a Seg of the other side with end arguments: of one that is in a pair its first partner is taken.
+pub fn seg_for(
+    alloc: Global,
+    join: &Joining,
+    defs: &Defs,
+    side: Side,
+    pair: &Pair,
+    pred: PredId,
+    end: NodeId,
+    others: &[NodeId],
+) -> Result<Option<SegFold>, NoMemory>
+    requires { AreGood join.now }
+{
+    let half = join.half(side);
+    let nodes = standing_args(alloc, &half.state, defs, half.used.as_slice(), pred, end)?;
+    let found = plain_all(alloc, nodes.as_slice())?;
+    let ends = partner_or_terms(
+        alloc,
+        join.pairs.as_slice(),
+        across(side),
+        others,
+        found.as_slice(),
+    )?;
+    seg_fold(alloc, join, defs, side, pair, pred, end, ends)
+}
+
+/// Whether the arguments of a fold into an Ind have nodes, or such can be named.
+pub fn ind_has_nodes(
+    alloc: Global,
+    half: &Half,
+    defs: &Defs,
+    pred: PredId,
+    fold: &IndFold,
+) -> Result<bool, NoMemory>
+    requires { IsGood half.now.state }
+{
+    can_name(alloc, &half.state, defs, pred, fold.args.as_slice())
+}
+
+/// Whether those of a fold into a Seg have nodes, or such can be named.
+pub fn seg_has_nodes(
+    alloc: Global,
+    half: &Half,
+    defs: &Defs,
+    pred: PredId,
+    fold: &SegFold,
+) -> Result<bool, NoMemory>
+    requires { IsGood half.now.state }
+{
+    can_name_both(
+        alloc,
+        &half.state,
+        defs,
+        pred,
+        fold.args.as_slice(),
+        fold.ends.as_slice(),
+    )
+}
+
+/// The nodes of a predicate's arguments in a side's state. None where one can't be named; then the state is lost.
+fn name_in(
+    alloc: Global,
+    join: &mut Joining,
+    defs: &Defs,
+    side: Side,
+    pred: PredId,
+    args: &[Term],
+) -> Result<Option<Vec<NodeId>>, NoMemory>
+    requires { AreGood join.old }
+    ensures { OnOk result (AreGood join.new) }
+{
+    match side {
+        Side::Left => name_args(alloc, &mut join.left.state, defs, pred, args),
+        Side::Right => name_args(alloc, &mut join.right.state, defs, pred, args),
+    }
+}
+
+/// The Ind into which a side's edges are folded at a pair, with nodes of its arguments. None where one of these can't be
+/// named; then the state is lost.
+pub fn folded_ind(
+    alloc: Global,
+    join: &mut Joining,
+    defs: &Defs,
+    side: Side,
+    pair: &Pair,
+    pred: PredId,
+    fold: IndFold,
+) -> Result<Option<Part>, NoMemory>
+    requires { AreGood join.old }
+    ensures { OnOk result (AreGood join.new) }
+{
+    let IndFold { args, used } = fold;
+    match name_in(alloc, join, defs, side, pred, args.as_slice())? {
+        Some(nodes) => {
+            let args = args_of(alloc, nodes.as_slice())?;
+            Ok(Some(Part {
+                edge: Edge::Ind {
+                    at: of_side(side, pair),
+                    pred,
+                    args,
+                },
+                used,
+            }))
+        }
+        None => Ok(None),
+    }
+}
+
+/// A Seg.
+fn seg(
+    alloc: Global,
+    at: NodeId,
+    args: &[NodeId],
+    pred: PredId,
+    end: NodeId,
+    ends: &[NodeId],
+) -> Result<Edge, NoMemory> {
+    Ok(Edge::Seg {
+        at,
+        args: args_of(alloc, args)?,
+        pred,
+        end,
+        end_args: args_of(alloc, ends)?,
+    })
+}
+
+/// The Seg into which a side's edges are folded from a pair, with nodes of its arguments and its end arguments. None where
+/// one of these can't be named; then the state is lost.
+pub fn folded_seg(
+    alloc: Global,
+    join: &mut Joining,
+    defs: &Defs,
+    side: Side,
+    pair: &Pair,
+    pred: PredId,
+    fold: SegFold,
+) -> Result<Option<Part>, NoMemory>
+    requires { AreGood join.old }
+    ensures { OnOk result (AreGood join.new) }
+{
+    let SegFold {
+        args,
+        end,
+        ends,
+        used,
+    } = fold;
+    let Some(first) = name_in(alloc, join, defs, side, pred, args.as_slice())? else {
+        return Ok(None);
+    };
+    let Some(last) = name_in(alloc, join, defs, side, pred, ends.as_slice())? else {
+        return Ok(None);
+    };
+    let edge = seg(
+        alloc,
+        of_side(side, pair),
+        first.as_slice(),
+        pred,
+        end,
+        last.as_slice(),
+    )?;
+    Ok(Some(Part { edge, used }))
+}

@@ -1,0 +1,265 @@
+// Nodes of terms: their own, or such as are named for them.
+ghost use Rattle.std.specs.Prelude.{◌≡◌, ◌++◌, ◌∷◌, [], ◌&&◌, Some, None, IfOk, OnOk, IsTrue, find, option_map, is_some, List};
+ghost use Rattle.mc_base.specs.declared.ids.NodeId.{NodeId as Node};
+ghost use Rattle.mc_state.specs.Known.{Test, Tells};
+ghost use Rattle.mc_state.specs.Premises.{Changes};
+ghost use Rattle.mc_rules_logic.specs.Fold.ChangeJudges.{naming_spare};
+ghost use Rattle.mc_apply_fold.specs.Forget.Left.{IsMade};
+ghost use Rattle.mc_joins.specs.Parts.{Basis, own_node, node_of_term, nodes_of_terms, nodes_of_args};
+ghost use Rattle.mc_cover.specs.Terms.{equal_terms};
+ghost use Rattle.mc_replay.specs.Named.{IsGood, TellsFrom, GoodIsTold, NamingKeepsGood, NamingKeepsTests, is_own, nodes_of_both, with_named};
+
+use mc_apply_fold::change::{SpareNode, name_spare};
+use mc_base::{Kind, NoMemory, NodeId, PredId};
+use mc_cover::search::plain;
+use mc_flow::defs::Defs;
+use mc_rules_logic::fold::{naming_is_judged, naming_makes_well};
+use mc_state::{LogicFault, Term};
+use mc_symbolic::State;
+use std::alloc::{AllocError, Global};
+
+/// Where a node is named in a good state, it stays good.
+fn naming_keeps_good()
+    ensures good { NamingKeepsGood }
+    ensures tests { NamingKeepsTests }
+    ensures told { GoodIsTold }
+{
+    mc_pure::normal_forms_say_all();
+    mc_pure::derived_grows();
+    mc_pure::each_is_decided();
+    naming_makes_well();
+    mc_state::nodes_are_there();
+}
+
+/// The term as `mc_pure` has it.
+fn as_asked(term: &Term) -> mc_pure::Term
+    ensures node { result.node ≡ term.now.node }
+    ensures add { result.add ≡ term.now.add }
+{
+    mc_pure::Term {
+        node: term.node,
+        add: term.add,
+    }
+}
+
+/// Whether the terms are entailed to be equal.
+fn are_equal(state: &State, left: &Term, right: &Term) -> bool
+    ensures { (know : Test) → Tells know state.now → result ≡ equal_terms know left.now right.now }
+{
+    let first = as_asked(left);
+    let second = as_asked(right);
+    let pure = state.known();
+    pure.are_equal(&first, &second)
+}
+
+/// Whether a node is of a kind, and equal to a term.
+fn is_own(state: &State, kind: Kind, term: &Term, node: NodeId) -> bool
+    ensures { (know : Test) → Tells know state.now → result ≡ is_own know state.now.kinds kind term.now node }
+{
+    state.has_kind(kind, node) && are_equal(state, term, &plain(node))
+}
+
+/// The first of the nodes that is of a kind, and equal to a term.
+fn first_own(state: &State, kind: Kind, term: &Term, nodes: &[NodeId]) -> Option<NodeId>
+    ensures { (know : Test) → Tells know state.now → result ≡ find (is_own know state.now.kinds kind term.now) nodes.now }
+{
+    for node in nodes {
+        if is_own(state, kind, term, *node) {
+            return Some(*node);
+        }
+    }
+    None
+}
+
+/// A term's own node in a kind.
+fn own_node(state: &State, kind: Kind, term: &Term) -> Option<NodeId>
+    ensures { (w : Basis) → TellsFrom w state.now → result ≡ own_node w state.now kind term.now }
+{
+    state.is_bounded();
+    first_own(state, kind, term, state.nodes())
+}
+
+/// What L8 is to name: a term in a kind.
+fn spare_of(kind: Kind, term: &Term) -> SpareNode
+    ensures node { result.node ≡ term.now.node }
+    ensures add { result.add ≡ term.now.add }
+    ensures kind { result.kind ≡ kind }
+{
+    SpareNode {
+        node: term.node,
+        add: term.add,
+        kind,
+    }
+}
+
+/// Names a new node for a term in a kind, by L8.
+fn name_new(state: &mut State, kind: Kind, term: &Term) -> Result<(), LogicFault>
+    requires { IsMade state.old }
+    ensures { (know : Test) → Tells know state.old → Changes
+        (naming_spare know term.now.node term.now.add kind state.old) (state.old ∷ []) (state.new ∷ []) result }
+{
+    let spare = spare_of(kind, term);
+    name_spare(state, &spare)
+}
+
+/// The node of a term in a kind: its own, or, where it has none, one that is named. None where none can be named; then
+/// nothing changes.
+fn name_term(state: &mut State, kind: Kind, term: &Term) -> Result<Option<NodeId>, NoMemory>
+    requires { IsGood state.old }
+    ensures named { IfOk result (λ found. (w : Basis) → TellsFrom w state.old
+        → option_map (λ (n : Node). with_named state.new (n ∷ [])) found ≡ node_of_term w state.old kind term.now) }
+    ensures good { OnOk result (IsGood state.new) }
+    ensures tells { OnOk result ((w : Basis) → TellsFrom w state.old → TellsFrom w state.new) }
+    ensures graph { OnOk result (state.new.graph ≡ state.old.graph) }
+{
+    naming_keeps_good();
+    naming_is_judged();
+    if let Some(node) = own_node(state, kind, term) {
+        return Ok(Some(node));
+    }
+    let node = state.next_node();
+    match name_new(state, kind, term) {
+        Ok(()) => Ok(Some(node)),
+        Err(LogicFault::Premise(_)) => Ok(None),
+        Err(LogicFault::NoMemory) => Err(AllocError),
+    }
+}
+
+/// The nodes of terms, one after the other, each in a kind.
+fn name_terms(
+    alloc: Global,
+    state: &mut State,
+    kinds: &[Kind],
+    terms: &[Term],
+) -> Result<Option<Vec<NodeId>>, NoMemory>
+    requires { IsGood state.old }
+    ensures named { IfOk result (λ found. (w : Basis) → TellsFrom w state.old
+        → option_map (λ nodes. with_named state.new nodes.items) found ≡ nodes_of_terms w state.old kinds.now terms.now) }
+    ensures good { OnOk result (IsGood state.new) }
+    ensures tells { OnOk result ((w : Basis) → TellsFrom w state.old → TellsFrom w state.new) }
+    ensures graph { OnOk result (state.new.graph ≡ state.old.graph) }
+{
+    let mut nodes = Vec::new(alloc);
+    if kinds.len() != terms.len() {
+        return Ok(None);
+    }
+    for (i, kind) in kinds.iter().enumerate() {
+        match name_term(state, *kind, &terms[i])? {
+            Some(node) => nodes.push(node)?,
+            None => return Ok(None),
+        }
+    }
+    Ok(Some(nodes))
+}
+
+/// The nodes of a predicate's arguments, in the kinds of its parameters. None where one can't be named; then the state is
+/// lost.
+pub fn name_args(
+    alloc: Global,
+    state: &mut State,
+    defs: &Defs,
+    pred: PredId,
+    args: &[Term],
+) -> Result<Option<Vec<NodeId>>, NoMemory>
+    requires { IsGood state.old }
+    ensures named { IfOk result (λ found. (w : Basis) → w.defs ≡ defs.now → TellsFrom w state.old
+        → option_map (λ nodes. with_named state.new nodes.items) found ≡ nodes_of_args w pred state.old args.now) }
+    ensures good { OnOk result (IsGood state.new) }
+    ensures tells { OnOk result ((w : Basis) → TellsFrom w state.old → TellsFrom w state.new) }
+    ensures graph { OnOk result (state.new.graph ≡ state.old.graph) }
+{
+    match defs.as_slice().get(pred.0 as usize) {
+        Some(def) => {
+            let nodes = name_terms(alloc, state, def.params.as_slice(), args)?;
+            Ok(nodes)
+        }
+        None => Ok(None),
+    }
+}
+
+/// Whether a term has a node of its own in a kind.
+fn has_own(state: &State, kind: Kind, term: &Term) -> bool
+    ensures { IsTrue result → (w : Basis) → TellsFrom w state.now
+        → (n : Node) × (node_of_term w state.now kind term.now ≡ Some (with_named state.now (n ∷ []))) }
+{
+    match own_node(state, kind, term) {
+        Some(_) => true,
+        None => false,
+    }
+}
+
+/// Whether each term has a node of its own in its kind.
+fn have_own(state: &State, kinds: &[Kind], terms: &[Term]) -> bool
+    ensures { IsTrue result → (w : Basis) → TellsFrom w state.now
+        → (nodes : List Node) × (nodes_of_terms w state.now kinds.now terms.now ≡ Some (with_named state.now nodes)) }
+{
+    if kinds.len() != terms.len() {
+        return false;
+    }
+    for (i, kind) in kinds.iter().enumerate() {
+        if !has_own(state, *kind, &terms[i]) {
+            return false;
+        }
+    }
+    true
+}
+
+/// The same for a predicate's arguments.
+fn args_have_own(state: &State, defs: &Defs, pred: PredId, args: &[Term]) -> bool
+    ensures { IsTrue result → (w : Basis) → w.defs ≡ defs.now → TellsFrom w state.now
+        → (nodes : List Node) × (nodes_of_args w pred state.now args.now ≡ Some (with_named state.now nodes)) }
+{
+    match defs.as_slice().get(pred.0 as usize) {
+        Some(def) => have_own(state, def.params.as_slice(), args),
+        None => false,
+    }
+}
+
+/// Whether a predicate's arguments have nodes, or such can be named. Where each has one of its own nothing is copied.
+pub fn can_name(
+    alloc: Global,
+    state: &State,
+    defs: &Defs,
+    pred: PredId,
+    args: &[Term],
+) -> Result<bool, NoMemory>
+    requires { IsGood state.now }
+    ensures { IfOk result (λ can. (w : Basis) → w.defs ≡ defs.now → TellsFrom w state.now
+        → can ≡ is_some (nodes_of_args w pred state.now args.now)) }
+{
+    if args_have_own(state, defs, pred, args) {
+        return Ok(true);
+    }
+    let mut trial = state.copy(alloc)?;
+    match name_args(alloc, &mut trial, defs, pred, args)? {
+        Some(_) => Ok(true),
+        None => Ok(false),
+    }
+}
+
+/// The same for the arguments and the end arguments of a segment of a predicate, one after the other.
+pub fn can_name_both(
+    alloc: Global,
+    state: &State,
+    defs: &Defs,
+    pred: PredId,
+    args: &[Term],
+    ends: &[Term],
+) -> Result<bool, NoMemory>
+    requires { IsGood state.now }
+    ensures { IfOk result (λ can. (w : Basis) → w.defs ≡ defs.now → TellsFrom w state.now
+        → can ≡ is_some (nodes_of_both w pred state.now args.now ends.now)) }
+{
+    if args_have_own(state, defs, pred, args) && args_have_own(state, defs, pred, ends) {
+        return Ok(true);
+    }
+    let mut trial = state.copy(alloc)?;
+    match name_args(alloc, &mut trial, defs, pred, args)? {
+        Some(_) => {}
+        None => return Ok(false),
+    }
+    match name_args(alloc, &mut trial, defs, pred, ends)? {
+        Some(_) => Ok(true),
+        None => Ok(false),
+    }
+}
