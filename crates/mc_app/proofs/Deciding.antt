@@ -1,5 +1,5 @@
 -- An analysis decides a closed program.
-use Rattle.std.proofs.Common.{◌≡◌, ◌∙◌, ◌<◌, ◌⊎◌, ℕ, Bool, false, List, [], ◌∷◌, Some, None, codes, inl, inr, length, map, sym, ap, subst, arith}
+use Rattle.std.proofs.Common.{◌≡◌, ◌∙◌, ◌<◌, ◌⊎◌, ℕ, false, List, [], ◌∷◌, Some, None, codes, inl, inr, length, map, sym, ap, subst, arith}
 use Rattle.std.specs.List.{AllByRecursion}
 use Rattle.std.proofs.lemmas.List.{length-map}
 use Rattle.mc_c_syntax.specs.Ast.Trees.{FunctionTree, UnitTree}
