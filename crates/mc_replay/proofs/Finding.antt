@@ -1,6 +1,6 @@
 -- Edges that are not used, and edges that a fold may use.
 use Rattle.std.proofs.Common.{◌≡◌, ◌<◌, ◌≤◌, ◌+◌, ℕ, zero, suc, Bool, true, false, List, [], ◌∷◌, ◌++◌, Some, None, drop, get_or, length, refl, sym, ap, ◌∙◌, arith, eqb-true, eq-eqb}
-use Rattle.std.specs.Prelude.{◌==◌, ◌&&◌, ◌||◌, not, find, filter}
+use Rattle.std.specs.Prelude.{◌==◌, ◌&&◌, not, find, filter}
 use Rattle.std.proofs.lemmas.List.{drop_more}
 use Rattle.mc_base.specs.declared.ids.EdgeId.{EdgeId}
 use Rattle.mc_state.specs.declared.graph.edge.Edge.{Edge}

@@ -1,6 +1,6 @@
 -- Nodes of terms, and what their naming keeps.
-use Rattle.std.proofs.Common.{◌≡◌, ◌<◌, ◌≤◌, ◌+◌, ℕ, zero, suc, Bool, true, false, List, [], ◌∷◌, ◌++◌, ℤ, Option, Result, Ok, Err, map, Some, None, length, drop, get_or, append-nil, refl, sym, ap, ap₂, subst, ◌∙◌, inl, inr, arith, eqb-true}
-use Rattle.std.specs.Prelude.{◌==◌, ◌&&◌, find, filter, if◌then◌else◌, option_map, option_and_then, slice_get}
+use Rattle.std.proofs.Common.{◌≡◌, ◌<◌, ◌≤◌, ◌+◌, ℕ, suc, Bool, true, false, List, [], ◌∷◌, ◌++◌, ℤ, Option, Result, Ok, Err, map, Some, None, length, drop, get_or, append-nil, refl, sym, ap, ap₂, subst, ◌∙◌, inl, inr, arith, eqb-true}
+use Rattle.std.specs.Prelude.{◌==◌, find, filter, option_map, option_and_then, slice_get}
 use Rattle.std.specs.List.{AllByRecursion}
 use Rattle.std.specs.Option.{option_or}
 use Rattle.std.proofs.lemmas.List.{drop_more}
@@ -9,7 +9,7 @@ use Rattle.mc_base.specs.declared.ids.PredId.{PredId}
 use Rattle.mc_base.specs.declared.plain.Kind.{Kind}
 use Rattle.mc_flow.specs.declared.defs.rules.Def.{Def}
 use Rattle.mc_base.specs.Nodes.{null}
-use Rattle.mc_pure.specs.Pure.{Kinds, IsNode, kind_of}
+use Rattle.mc_pure.specs.Pure.{Kinds, kind_of}
 use Rattle.mc_pure.specs.Rows.{nodes_of}
 use Rattle.mc_pure.specs.Derived.{Follows}
 use Rattle.mc_pure.specs.Classes.{NormalSaysAll, EachHasNormalForm, EachIsDecided}
@@ -32,9 +32,9 @@ use Rattle.mc_cover.specs.Terms.{equal_terms}
 use Rattle.mc_cover.proofs.SearchLemmas.Left.{no_yes}
 use Rattle.mc_kernel.proofs.OracleLemmas.Known.{made_rises, made_fits}
 use Rattle.mc_joins.proofs.AtomsLemmas.Naming.{stays_true}
-use Rattle.mc_joins.specs.Parts.{Basis, Named, own_node, spare_node, only_state, node_of_term, nodes_of_terms, nodes_of_args, behind}
+use Rattle.mc_joins.specs.Parts.{Basis, Named, own_node, only_state, node_of_term, nodes_of_terms, nodes_of_args, behind}
 use Rattle.mc_replay.proofs.Finding.{drop_none}
-use Rattle.mc_replay.specs.Named.{IsGood, TellsFrom, GoodIsTold, NamingKeepsGood, NamingKeepsTests, is_own, with_named}
+use Rattle.mc_replay.specs.Named.{TellsFrom, GoodIsTold, NamingKeepsGood, NamingKeepsTests, is_own, with_named}
 
 -- ---- own nodes
 

@@ -1,4 +1,4 @@
-use Rattle.std.proofs.Common.{◌≡◌, ◌++◌, ◌∙◌, List, append-nil, sym, ap}
+use Rattle.std.proofs.Common.{◌++◌, ◌∙◌, List, append-nil, sym, ap}
 use Rattle.mc_state.specs.declared.terms.Term.{Term}
 use Rattle.mc_replay.proofs.Pairing.{partners_past}
 use Rattle.mc_replay.proofs.covers.partner_or_terms.Goals as goal

@@ -1,4 +1,4 @@
-use Rattle.std.proofs.Common.{◌≡◌, ◌∙◌, ap}
+use Rattle.std.proofs.Common.{◌∙◌, ap}
 use Rattle.std.specs.Prelude.{find}
 use Rattle.mc_state.specs.Graph.Graph.{Edges}
 use Rattle.mc_replay.specs.Seen.{starts_there, is_here}

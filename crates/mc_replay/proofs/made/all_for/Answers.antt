@@ -1,4 +1,4 @@
-use Rattle.std.proofs.Common.{◌≡◌, ◌<◌, ◌++◌, ◌∙◌, List, map, append-nil, length, sym, ap, arith}
+use Rattle.std.proofs.Common.{◌<◌, ◌++◌, ◌∙◌, List, map, append-nil, length, sym, ap, arith}
 use Rattle.mc_base.specs.declared.ids.NodeId.{NodeId}
 use Rattle.mc_joins.specs.Steps.{node_for}
 use Rattle.mc_replay.proofs.Pairing.{zip_past, zip_more}

@@ -1,4 +1,4 @@
-use Rattle.std.proofs.Common.{◌≡◌, ◌++◌, ◌∙◌, List, Option, map, option_map, append-nil, sym, ap}
+use Rattle.std.proofs.Common.{◌++◌, ◌∙◌, List, Option, map, option_map, append-nil, sym, ap}
 use Rattle.std.specs.Option.{option_zip}
 use Rattle.mc_base.specs.declared.ids.NodeId.{NodeId}
 use Rattle.mc_joins.specs.Steps.{node_for}

@@ -1,4 +1,4 @@
-use Rattle.std.proofs.Common.{◌≡◌, Option, refl, sym, ap}
+use Rattle.std.proofs.Common.{Option, refl, sym, ap}
 use Rattle.std.specs.Prelude.{is_some}
 use Rattle.mc_joins.specs.Parts.{Named}
 use Rattle.mc_replay.proofs.naming.can_name.Goals as goal

@@ -1,4 +1,4 @@
-use Rattle.std.proofs.Common.{◌≡◌, ◌∙◌, Option, refl, sym, ap}
+use Rattle.std.proofs.Common.{◌∙◌, Option, refl, sym, ap}
 use Rattle.std.specs.Prelude.{is_some, option_and_then}
 use Rattle.mc_joins.specs.Parts.{Named, nodes_of_args}
 use Rattle.mc_replay.proofs.naming.can_name_both.Goals as goal

@@ -1,4 +1,4 @@
-use Rattle.std.proofs.Common.{◌≡◌, ◌≤◌, ◌<◌, length, sym, ◌∙◌, arith}
+use Rattle.std.proofs.Common.{sym, ◌∙◌, arith}
 use Rattle.mc_replay.specs.Named.{is_own}
 use Rattle.mc_replay.proofs.Finding.{find_next, find_here, find_end}
 use Rattle.mc_replay.proofs.naming.first_own.Goals as goal

@@ -1,4 +1,4 @@
-use Rattle.std.proofs.Common.{◌≡◌, ◌∙◌, sym}
+use Rattle.std.proofs.Common.{◌∙◌, sym}
 use Rattle.mc_replay.proofs.NamedLemmas.{named_own}
 use Rattle.mc_replay.proofs.naming.has_own.Goals as goal
 

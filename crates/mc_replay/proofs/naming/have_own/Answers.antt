@@ -1,4 +1,4 @@
-use Rattle.std.proofs.Common.{◌≡◌, ◌<◌, ◌≤◌, ◌++◌, ◌∷◌, [], length, refl, arith}
+use Rattle.std.proofs.Common.{◌<◌, ◌≤◌, ◌++◌, ◌∷◌, [], length, refl, arith}
 use Rattle.mc_replay.proofs.NamedLemmas.{goes_on, ends}
 use Rattle.mc_replay.proofs.naming.have_own.Goals as goal
 

@@ -1,4 +1,4 @@
-use Rattle.std.proofs.Common.{◌≡◌, [], ◌∷◌, List, subst}
+use Rattle.std.proofs.Common.{[], ◌∷◌, List, subst}
 use Rattle.mc_state.specs.State.{State}
 use Rattle.mc_state.specs.Premises.{Judged, Changes}
 use Rattle.mc_replay.proofs.NamedLemmas.{same_spare}

@@ -1,8 +1,7 @@
-use Rattle.std.proofs.Common.{◌≡◌, ◌∷◌, [], None, Ok, refl, ap, sym, ◌∙◌, subst}
+use Rattle.std.proofs.Common.{◌∷◌, [], refl, ap, sym, ◌∙◌, subst}
 use Rattle.mc_state.specs.State.{State}
 use Rattle.mc_rules_logic.specs.Fold.ChangeJudges.{naming_spare}
 use Rattle.mc_rules_logic.specs.Fold.Changed.{NamesSpare}
-use Rattle.mc_joins.specs.Parts.{own_node}
 use Rattle.mc_replay.specs.Named.{IsGood, TellsFrom}
 use Rattle.mc_replay.proofs.NamedLemmas.{changes_ok, changes_premise, one_state, named_own, named_spare, named_none, spare_is, spare_told}
 use Rattle.mc_replay.proofs.naming.name_term.Goals as goal

@@ -1,4 +1,4 @@
-use Rattle.std.proofs.Common.{◌≡◌, ◌<◌, ◌∷◌, [], ◌∙◌, Option, length, option_map, sym, ap, arith}
+use Rattle.std.proofs.Common.{◌<◌, ◌∷◌, [], ◌∙◌, Option, length, option_map, sym, ap, arith}
 use Rattle.mc_base.specs.declared.ids.NodeId.{NodeId}
 use Rattle.mc_replay.specs.Named.{with_named}
 use Rattle.mc_replay.proofs.NamedLemmas.{unequal_none, stops, goes_on}

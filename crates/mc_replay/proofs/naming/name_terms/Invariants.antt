@@ -1,4 +1,4 @@
-use Rattle.std.proofs.Common.{◌≡◌, ◌≤◌, drop, length}
+use Rattle.std.proofs.Common.{◌≡◌, drop, length}
 use Rattle.std.specs.Prelude.{option_map}
 use Rattle.mc_joins.specs.Parts.{Basis, behind, nodes_of_terms}
 use Rattle.mc_replay.specs.Named.{IsGood, TellsFrom}
