@@ -6,7 +6,7 @@
 //!   `mc_joins` defines it.
 //! - `naming`, `covers`: nodes of terms, the edges that the first cover takes, arguments, likewise.
 //! - `folds`, `steps`, `whole`, `answers`: the steps, whether any applies, and what a whole join gives. Of these it is
-//!   proved so far that they end, and that both states stay well made and not false.
+//!   proved so far that they end, and that both states stay well made and not false; so nothing of this crate is public.
 #![tactic(auto)]
 
 mod answers;
@@ -20,5 +20,3 @@ mod naming;
 mod pairs;
 mod steps;
 mod whole;
-
-pub use answers::{Replayed, replay};
