@@ -5,9 +5,9 @@ ghost use Rattle.mc_flow.specs.declared.graph.Flow.{Flow as Graph};
 ghost use Rattle.mc_flow.specs.Valid.{IsValid};
 ghost use Rattle.mc_find.specs.Analysis.Findings.{IsProposed};
 
-use crate::accepted::{is_found, reported};
+use crate::accepted::reported;
 use crate::analysis::Proposed;
-use crate::finding::all_steps;
+use crate::finding::{all_steps, certified};
 use crate::rank::Rank;
 use crate::walks::{Aim, Attempt, Blocked, Limits, Rung, Step, Style, Task, first_rung};
 use mc_base::NoMemory;
@@ -131,17 +131,9 @@ fn certificate(
     requires { IsValid task.sight.flow.now task.sight.defs.now }
     ensures { IfOk result (λ found. IfSome found (λ proposed. IsProposed task.entry.sight.flow.now task.entry.sight.defs.now merge proposed)) }
 {
-    let lines = attempt.document(Form::Certificate)?;
-    if is_found(
-        alloc,
-        task.sight.flow,
-        task.sight.defs,
-        merge,
-        lines.as_slice(),
-    )? {
-        Ok(Some(Proposed::Certificate(lines)))
-    } else {
-        Ok(None)
+    match certified(alloc, task, merge, attempt)? {
+        Some(lines) => Ok(Some(Proposed::Certificate(lines))),
+        None => Ok(None),
     }
 }
 

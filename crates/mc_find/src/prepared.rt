@@ -25,12 +25,32 @@ pub struct Prepared {
     cuts: Vec<PointId>,
 }
 
+/// The variables that count at each point: those that are read later, and where states are merged at the end of an `if`, all.
+fn counting_variables(alloc: Global, flow: &Flow, merge: bool) -> Result<Rows, NoMemory> {
+    let mut rows = live_variables(alloc, flow)?;
+    if merge {
+        for point in flow.merges.as_slice() {
+            rows.fill_row(point.0 as usize, true);
+        }
+    }
+    Ok(rows)
+}
+
+/// Which variables hold constants alone, by whose values states are told apart. Where states are merged, none.
+fn telling_constants(alloc: Global, flow: &Flow, merge: bool) -> Result<Vec<bool>, NoMemory> {
+    if merge {
+        Ok(Vec::new(alloc))
+    } else {
+        constant_variables(alloc, flow)
+    }
+}
+
 impl Prepared {
     /// What is found out of a program, where the points at which two ways meet may be cuts too.
     pub fn of(alloc: Global, flow: &Flow, defs: &Defs, merge: bool) -> Result<Prepared, NoMemory> {
-        let live = live_variables(alloc, flow)?;
+        let live = counting_variables(alloc, flow, merge)?;
         let stored = StoredFields::of(alloc, flow)?;
-        let constants = constant_variables(alloc, flow)?;
+        let constants = telling_constants(alloc, flow, merge)?;
         let graph = Graph::of(alloc, flow)?;
         let empties = graph.reaching_empty(alloc, flow)?;
         let wanted = wanted_predicates(alloc, flow, defs)?;
