@@ -1,5 +1,5 @@
 -- An analysis decides a closed program.
-use Rattle.std.proofs.Common.{◌≡◌, ◌∙◌, ◌<◌, ◌⊎◌, ℕ, false, List, [], ◌∷◌, Some, None, codes, inl, inr, length, map, sym, ap, subst, arith}
+use Rattle.std.proofs.Common.{◌≡◌, ◌∙◌, ◌<◌, ◌⊎◌, ℕ, Bool, false, List, [], ◌∷◌, Some, None, codes, inl, inr, length, map, sym, ap, subst, arith}
 use Rattle.std.specs.List.{AllByRecursion}
 use Rattle.std.proofs.lemmas.List.{length-map}
 use Rattle.mc_c_syntax.specs.Ast.Trees.{FunctionTree, UnitTree}
@@ -18,7 +18,7 @@ use Rattle.mc_outside.specs.declared.outside.FileFault.{FileFault}
 use Rattle.mc_outside.specs.declared.outside.FileFault.TheVariants.{Failed, NoMemory}
 use Rattle.mc_semantics.specs.Resolved.Programs.{Program}
 use Rattle.mc_semantics.specs.Steps.{IsSafeProgram, program_of}
-use Rattle.mc_app.specs.Analyses.{IsWhyAnalysed}
+use Rattle.mc_app.specs.Analyses.{IsWhyAnalysed, IsWhyFound}
 use Rattle.mc_app.specs.Answers.{analysed_status}
 use Rattle.mc_app.specs.Checks.{IsSafeUnit}
 use Rattle.mc_app.specs.Faults.{fault_status}
@@ -56,15 +56,19 @@ some_alarm flow defs merge f count found =
     omega arith
 
 module _ (closed : ClosedLowered) (start : List ℕ) (unit : UnitTree) (defs : List Def) (is : IsClosedUnit start unit defs) where
+  -- alarms of a closed program are real
+  alarmed : (b : Analyse) → b.start.now ≡ start → b.merge ≡ false → (f : Findings) (count : ℕ) → IsWhyFound b unit defs (Alarms f count) → IsSafeUnit start unit defs → ⊥
+  alarmed b e no_merge f count why safe =
+      let real = why.3.1.1 in
+      let closed_too = subst (λ (s : List ℕ). IsClosedUnit s unit defs) (sym e) is in
+      not_safe b.start.now unit defs why.0 why.3.0.alarms (some_alarm why.0 defs b.merge f count why.3.0) (real.closed no_merge closed_too) real.real (subst (λ (s : List ℕ). IsSafeUnit s unit defs) (sym e) safe)
+
   -- what is found of a closed program
   pub decides : (b : Analyse) → b.start.now ≡ start → b.merge ≡ false → (found : Analysed) → IsWhyAnalysed b unit defs found → Decides start unit defs (analysed_status found)
   decides b e no_merge TooLong why = subst (λ (s : List ℕ). IsLong s unit defs) e why
   decides b e no_merge (Found (Safe f)) why = subst (λ (s : List ℕ). IsSafeUnit s unit defs) e why.3.1
-  decides b e no_merge (Found (Alarms f count)) why =
-      let real = why.3.1.1 in
-      let closed_too = subst (λ (s : List ℕ). IsClosedUnit s unit defs) (sym e) is in
-      λ safe. not_safe b.start.now unit defs why.0 why.3.0.alarms (some_alarm why.0 defs b.merge f count why.3.0) (real.closed no_merge closed_too) real.real (subst (λ (s : List ℕ). IsSafeUnit s unit defs) (sym e) safe)
-  decides b e no_merge (Tried f count text) why = decides b e no_merge (Found (Alarms f count)) why.0
+  decides b e no_merge (Found (Alarms f count)) why = alarmed b e no_merge f count why
+  decides b e no_merge (Tried f count text) why = alarmed b e no_merge f count why.0
   decides b e no_merge (Found (Paths document)) why = (why.0, document.items, subst (λ (s : List ℕ). IsGraphOf s unit defs why.0) e why.1, why.3.0)
   decides b e no_merge (Found Unknown) why =
       let graph = why.1 in
