@@ -15,6 +15,7 @@ use mc_resolve::resolve;
 use mc_run::Program;
 use mc_run::interpret::{Ending, faults_are_one, interpret};
 use mc_run_values::script::{NamedStructs, struct_texts};
+use mc_semantics::resolved::Resolved;
 use std::alloc::Global;
 
 /// A script, and the fault of a program's run on it.
@@ -25,7 +26,48 @@ pub struct Found {
     pub script: Vec<u8>,
 }
 
-// The candidates for some places, none of which was run as a whole.
+// The candidates for some places of a resolved program, none of which was run as a whole.
+fn candidates_of(
+    alloc: Global,
+    bound: &Bound,
+    program: Program<'_>,
+    numbers: &Numbers,
+    places: &[Place],
+    runs: u64,
+) -> Result<Vec<Candidate>, NoMemory> {
+    let Some(entry) = program.resolved.functions.get(program.resolved.entry) else {
+        return Ok(Vec::new(alloc));
+    };
+    let task = Task {
+        alloc,
+        program,
+        structs: bound.typed().structs().list.as_slice(),
+        entry,
+        numbers,
+    };
+    find_candidates(task, places, runs)
+}
+
+// The same, with the names of its structs.
+fn candidates_with(
+    alloc: Global,
+    bound: &Bound,
+    resolved: &Resolved,
+    structs: &NamedStructs<'_>,
+    places: &[Place],
+    runs: u64,
+) -> Result<Vec<Candidate>, NoMemory> {
+    let constants = constants_of(alloc, resolved, bound.defs().as_slice())?;
+    let numbers = Numbers::of(alloc, constants.as_slice())?;
+    let program = Program {
+        resolved,
+        defs: bound.defs(),
+        structs,
+    };
+    candidates_of(alloc, bound, program, &numbers, places, runs)
+}
+
+// The candidates for some places of a program.
 fn candidates(
     alloc: Global,
     bound: &Bound,
@@ -36,24 +78,7 @@ fn candidates(
     let infos = bound.typed().structs().list.as_slice();
     let texts = struct_texts(alloc, infos)?;
     let structs = NamedStructs::of(alloc, infos, texts.as_slice())?;
-    let constants = constants_of(alloc, &resolved, bound.defs().as_slice())?;
-    let numbers = Numbers::of(alloc, constants.as_slice())?;
-    let Some(entry) = resolved.functions.get(resolved.entry) else {
-        return Ok(Vec::new(alloc));
-    };
-    let program = Program {
-        resolved: &resolved,
-        defs: bound.defs(),
-        structs: &structs,
-    };
-    let task = Task {
-        alloc,
-        program,
-        structs: infos,
-        entry,
-        numbers: &numbers,
-    };
-    find_candidates(task, places, runs)
+    candidates_with(alloc, bound, &resolved, &structs, places, runs)
 }
 
 // Whether no byte is a blank.
