@@ -1,5 +1,5 @@
 -- The document that an analysis has left is judged as the analysis ended.
-use Rattle.std.proofs.Common.{◌≡◌, ◌∙◌, ◌≤◌, ◌<◌, ◌⊎◌, ℕ, Bool, List, [], ◌∷◌, Option, Some, inl, inr, refl, sym, ap, subst, length, arith}
+use Rattle.std.proofs.Common.{◌≡◌, ◌∙◌, ◌≤◌, ℕ, Bool, List, [], ◌∷◌, Option, Some, inl, inr, refl, sym, ap, subst, length, arith}
 use Rattle.std.specs.Prelude.{None, Ok, Err}
 use Rattle.mc_find.specs.declared.analysis.analysis.Analysis.{Analysis}
 use Rattle.mc_find.specs.declared.analysis.analysis.Analysis.TheVariants as analysis
@@ -9,7 +9,6 @@ use Rattle.mc_def_read.specs.Judging.{Judged as JudgedText}
 use Rattle.mc_def_read.specs.Readings.{ReadsAs}
 use Rattle.mc_flow.specs.declared.defs.rules.Def.{Def}
 use Rattle.mc_flow.specs.declared.defs.shapes.StructInfo.{StructInfo}
-use Rattle.mc_flow.specs.declared.defs.shapes.Structs.{Structs}
 use Rattle.mc_flow.specs.declared.graph.Flow.{Flow}
 use Rattle.mc_flow.specs.Valid.{IsValid}
 use Rattle.mc_follow.specs.Alarms.Outcomes.{IsFront}
@@ -29,7 +28,7 @@ use Rattle.mc_load.specs.declared.inputs.refusal.Refusal.{Refusal}
 use Rattle.mc_load.specs.declared.inputs.refusal.Refusal.TheVariants.{Program, Definitions, Misfit}
 use Rattle.mc_document.specs.declared.judge.verdict.Verdict.{Verdict}
 use Rattle.mc_document.specs.declared.judge.verdict.Refusal.TheVariants.{EndsEarly}
-use Rattle.mc_document.specs.declared.judge.verdict.Verdict.TheVariants.{Safe, Alarms, Refused as Mistaken}
+use Rattle.mc_document.specs.declared.judge.verdict.Verdict.TheVariants.{Refused as Mistaken}
 use Rattle.mc_document.specs.Judge.Laws.{OpenDocumentsEndEarly}
 use Rattle.mc_document.specs.Judge.Verdicts.{GoesOn, IsCertificate, IsChain, SpellAll}
 use Rattle.mc_lower_spec.specs.Graphs.{Graph}
@@ -49,12 +48,11 @@ use Rattle.mc_app.specs.declared.words.words.Request.TheVariants as request
 use Rattle.mc_app.specs.Words.Words.{Asks, AsksAnalyse, AsksCheck}
 use Rattle.mc_app.specs.Alike.{AreJudgedAlike, AreStill, EndAlike, IsFoundStatus, NamesSame}
 use Rattle.mc_app.specs.Answers.{IsRefusedFor, IsWhyWords, analysed_document, checked_status, sources_of, status_of}
-use Rattle.mc_load.specs.Lowered.Graphs.{IsGraphOf, IsLong}
+use Rattle.mc_load.specs.Lowered.Graphs.{IsGraphOf}
 use Rattle.mc_app.specs.Checks.{IsJudged, IsWhyChecked}
 use Rattle.mc_app.specs.Documents.{IsVerdictOn}
 use Rattle.mc_app.specs.declared.answer.Answer.{Answer}
 use Rattle.mc_app.specs.declared.answer.Answer.TheVariants.{Words, Refused, Checked, Ran, Analysed, Demo}
-use Rattle.mc_app.specs.declared.analysing.Analysed.{Analysed as Results}
 use Rattle.mc_app.specs.declared.analysing.Analysed.TheVariants as results
 use Rattle.mc_app.specs.declared.answer.Status.TheVariants as statuses
 use Rattle.mc_app.specs.declared.checking.Checked.{Checked as Found}

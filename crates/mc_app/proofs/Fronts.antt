@@ -1,11 +1,10 @@
 -- What a call prints and leaves that asks for programs that are made.
-use Rattle.std.proofs.Common.{◌≡◌, ◌∙◌, ◌++◌, ℕ, List, inl, inr, refl, sym, ap, subst, take}
-use Rattle.std.specs.Prelude.{Option, Some, Ok}
+use Rattle.std.proofs.Common.{◌≡◌, ◌∙◌, ◌++◌, ℕ, List, inl, inr, refl, sym, subst}
+use Rattle.std.specs.Prelude.{Option, Some}
 use Rattle.mc_load.specs.Inputs.Inputs.{Holds}
-use Rattle.mc_outside.specs.Outside.{AddsIfTold, Stays}
 use Rattle.mc_app.specs.Analyses.{IsTarget}
 use Rattle.mc_app.specs.Answers.{Answers, EndsWith, IsWhyWords, OnlyTargetChanges, PrintsPart}
-use Rattle.mc_app.specs.Demo.Ending.{AddsDemo, DemosAreAnswered, EndsWellForDemo, IsDemoFor, LeavesFilesForDemo, PrintsDemo}
+use Rattle.mc_app.specs.Demo.Ending.{DemosAreAnswered, EndsWellForDemo, IsDemoFor, LeavesFilesForDemo, PrintsDemo}
 use Rattle.mc_app.specs.Printing.{text_of}
 use Rattle.mc_app.specs.Words.Words.{AsksDemo}
 use Rattle.mc_app.specs.declared.answer.Answer.{Answer}

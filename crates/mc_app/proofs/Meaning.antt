@@ -1,5 +1,5 @@
 -- What verdicts and findings mean for the runs of a program.
-use Rattle.std.proofs.Common.{◌≡◌, ℕ, Bool, List, [], refl, subst}
+use Rattle.std.proofs.Common.{◌≡◌, ℕ, Bool, List, refl, subst}
 use Rattle.mc_c_syntax.specs.Ast.Trees.{UnitTree}
 use Rattle.mc_document.specs.declared.judge.verdict.Verdict.{Verdict}
 use Rattle.mc_document.specs.declared.judge.verdict.Verdict.TheVariants as verdict

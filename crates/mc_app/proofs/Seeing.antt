@@ -1,5 +1,5 @@
 -- Programs that are made, and what is seen of them.
-use Rattle.std.proofs.Common.{◌≡◌, ◌∙◌, ◌++◌, ◌+◌, ◌⊎◌, ℕ, zero, suc, false, List, [], ◌∷◌, inl, inr, refl, sym, ap, subst, length, arith}
+use Rattle.std.proofs.Common.{◌≡◌, ◌∙◌, ◌++◌, ◌+◌, ℕ, zero, suc, false, List, [], ◌∷◌, inl, inr, refl, sym, ap, subst, length, arith}
 use Rattle.std.specs.Prelude.{IfErr, Result, Ok, Err}
 use Rattle.std.proofs.lemmas.List.{append-nil, append_assoc}
 use Rattle.mc_document.specs.Judge.Verdicts.{IsCertificate, IsChain}

@@ -1,8 +1,7 @@
 -- What a call's status means, from the cause of its answer.
-use Rattle.std.proofs.Common.{◌≡◌, ◌∙◌, ◌<◌, ◌⊎◌, ℕ, Bool, List, Option, Some, codes, inl, inr, refl, sym, ap, subst, length, arith}
+use Rattle.std.proofs.Common.{◌≡◌, ◌∙◌, ◌<◌, ℕ, Bool, List, Option, Some, codes, inl, inr, refl, ap, subst, length, arith}
 use Rattle.std.specs.Prelude.{Ok}
 use Rattle.mc_c_syntax.specs.Ast.Trees.{UnitTree}
-use Rattle.mc_document.specs.Judge.Verdicts.{IsChain}
 use Rattle.mc_document.specs.declared.judge.verdict.Refusal.TheVariants.{EndsEarly}
 use Rattle.mc_document.specs.declared.judge.verdict.Verdict.TheVariants.{Safe, Alarms, Refused as Mistaken}
 use Rattle.mc_find.specs.declared.analysis.analysis.Analysis.TheVariants as analysis
@@ -21,7 +20,7 @@ use Rattle.mc_outside.specs.declared.outside.FileFault.{FileFault}
 use Rattle.mc_outside.specs.declared.outside.FileFault.TheVariants.{Failed, NoMemory}
 use Rattle.mc_app.specs.Analyses.{IsWhyFound}
 use Rattle.mc_app.specs.Alike.{AreJudgedAlike, IsLikeAnalysis}
-use Rattle.mc_app.specs.Answers.{AsksForSafety, IsRefusedFor, IsWhyWords, sources_of, status_of}
+use Rattle.mc_app.specs.Answers.{IsRefusedFor, IsWhyWords, sources_of, status_of}
 use Rattle.mc_app.specs.Blocked.{FaultsComeBy}
 use Rattle.mc_app.specs.Faults.{fault_status}
 use Rattle.mc_app.specs.Printing.{text_of}

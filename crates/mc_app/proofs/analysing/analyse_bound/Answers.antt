@@ -4,7 +4,6 @@ use Rattle.mc_find.specs.declared.analysis.analysis.Analysis.TheVariants.{Safe}
 use Rattle.mc_find.specs.declared.analysis.analysis.Findings.{Findings}
 use Rattle.mc_find.specs.Analysis.Findings.{IsAnalysis}
 use Rattle.mc_c_syntax.specs.Ast.Views.{unit_of}
-use Rattle.mc_flow.specs.declared.defs.rules.Def.{Def}
 use Rattle.mc_flow.specs.Valid.{IsValid}
 use Rattle.mc_load.specs.Inputs.Texts.{IsWellFormed}
 use Rattle.mc_lower.specs.declared.lowering.Lowered.{Lowered}

@@ -1,4 +1,4 @@
-use Rattle.mc_app.proofs.Alike.{Laws, alike}
+use Rattle.mc_app.proofs.Alike.{alike}
 use Rattle.mc_app.proofs.laws.documents_are_judged_alike.Goals as goal
 
 pub returns : goal.returns

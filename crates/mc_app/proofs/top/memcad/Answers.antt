@@ -5,11 +5,10 @@ use Rattle.mc_app.specs.Answers.{document_of, status_of}
 use Rattle.mc_app.proofs.Leaving.{answer_ends, fault_ends, leaves_document, only_target, target_part}
 use Rattle.mc_app.specs.Statuses.{IsComplete, IsDecided}
 use Rattle.mc_app.specs.declared.answer.Status.{Status}
-use Rattle.mc_app.proofs.Deciding.{fault_decides}
 use Rattle.mc_app.specs.Demo.Ending.{EndsWellForDemo}
-use Rattle.mc_app.proofs.Seeing.{answer_ends_demo, fault_ends_demo}
+use Rattle.mc_app.proofs.Seeing.{answer_ends_demo}
 use Rattle.mc_app.proofs.Printing.{part_of_answer}
-use Rattle.mc_app.proofs.Telling.{alarms_tell, answer_is_like, fault_completes, fault_is_like, fault_tells}
+use Rattle.mc_app.proofs.Telling.{alarms_tell, answer_is_like}
 use Rattle.mc_app.proofs.top.memcad.Goals as goal
 
 pub returns-in-Err-keep-clause-why : goal.returns-in-Err-keep-clause-why

@@ -1,4 +1,4 @@
-use Rattle.std.proofs.Common.{◌≡◌, ◌∙◌, ℕ, suc, List, ap, arith, length, sym}
+use Rattle.std.proofs.Common.{◌≡◌, ◌∙◌, suc, List, ap, arith, length, sym}
 use Rattle.mc_app.specs.declared.demo.seen.Seen.{Seen}
 use Rattle.mc_app.proofs.Seeing.{all_printed, all_seen, next_is, no_lines, none_seen, nth, one_longer}
 use Rattle.mc_app.proofs.demo.lines.demo_text.Goals as goal

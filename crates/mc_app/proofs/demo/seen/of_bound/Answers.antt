@@ -1,10 +1,10 @@
-use Rattle.std.proofs.Common.{◌≡◌, ◌≤◌, ℕ, List, inl, inr, length, refl, subst, sym}
+use Rattle.std.proofs.Common.{◌≤◌, ℕ, List, inl, inr, length, refl, subst, sym}
 use Rattle.mc_c_syntax.specs.Ast.Views.{unit_of}
 use Rattle.mc_flow.specs.declared.defs.rules.Def.{Def}
 use Rattle.mc_load.specs.Inputs.Texts.{IsWellFormed}
 use Rattle.mc_load.specs.Lowered.Graphs.{IsGraphOf, IsLong}
 use Rattle.mc_lower.specs.declared.lowering.Lowered.{Lowered}
-use Rattle.mc_app.specs.Demo.Seen.{IsSeenOf, start}
+use Rattle.mc_app.specs.Demo.Seen.{IsSeenOf}
 use Rattle.mc_app.proofs.Seeing.{at_long}
 use Rattle.mc_app.proofs.demo.seen.of_bound.Goals as goal
 use Rattle.mc_load.proofs.InputsLemmas.Picking.{only_ok}

@@ -1,4 +1,4 @@
-use Rattle.std.proofs.Common.{◌∙◌, ℕ, List, inl, inr, refl, subst}
+use Rattle.std.proofs.Common.{ℕ, List, inl, inr, refl, subst}
 use Rattle.mc_c_syntax.specs.Ast.Views.{unit_of}
 use Rattle.mc_load.specs.Inputs.Pairs.{ArePair, AreRefused}
 use Rattle.mc_app.specs.Demo.Seen.{start}
