@@ -71,26 +71,30 @@ def test_a_verdict_says_nothing_more(folder):
         assert (it.stdout, it.stderr) == (printed, "")
 
 
-# Each turn of the loop may change any of eight blocks, which are more states than any number that is tried.
-NAMES = "abcdefgh"
-EIGHT = "\n".join(
-    [
-        "struct node { int data; struct node *next; };",
-        "int main() {",
-        *(f"  struct node *{it} = NULL;" for it in NAMES),
-        "  while (input() != 0) {",
-        *(f"    if (input() != 0) {{ {it} = malloc(sizeof(struct node)); if ({it} != NULL) {it}->data = 0; }}" for it in NAMES),
-        "  }",
-        "  return 0;",
-        "}",
-        "",
-    ]
-)
+# The last cell of a list is found by a loop, whose state changes once more than one round allows.
+LAST = """struct node { int data; struct node *next; };
+int main() {
+  struct node *l;
+  struct node *c;
+  assume_shape(list, l);
+  if (l == NULL) return 0;
+  if (l->next == NULL) {
+    free(l);
+    return 0;
+  }
+  c = l;
+  while (c->next->next != NULL) c = c->next;
+  free(c->next);
+  c->next = NULL;
+  assert_shape(list, l);
+  return 0;
+}
+"""
 
 
 def test_nothing_found_says_what_to_try(folder):
-    (folder / "eight.c").write_text(EIGHT)
-    it = ran(folder, "analyse eight.c list.d")
+    (folder / "last.c").write_text(LAST)
+    it = ran(folder, "analyse last.c list.d --rounds 1 --disjuncts 1")
     assert (it.returncode, it.stdout) == (3, "program: NotYet\n")
     assert "which says nothing of the program" in it.stderr and "try another --disjuncts" in it.stderr
 
