@@ -19,7 +19,8 @@ use Rattle.mc_app.specs.declared.analysing.Analysed.TheVariants.{TooLong, Found,
 
 -- what is found of this flow graph of the program means for its runs: with a certificate none has a fault; each that has one comes
 -- by one of the blocked branches of the chain that is reported, and the alarms with answers of malloc are real
-abbrev pub MeansForRuns : (start : List ℕ) (unit : UnitTree) (defs : List Def) (flow : Flow) (merge : Bool) (found : Analysis) → IsAnalysis flow defs merge found → Type 0
+abbrev pub MeansForRuns : (start : List ℕ) (unit : UnitTree) (defs : List Def) (flow : Flow) (merge : Bool) (found : Analysis)
+    → IsAnalysis flow defs merge found → Type 0
 MeansForRuns start unit defs flow merge (Safe f) proved = IsSafeUnit start unit defs
 MeansForRuns start unit defs flow merge (Alarms f count) alarming =
     FaultsComeBy start unit defs flow alarming.stuck × AreReal start unit defs flow merge alarming.alarms
