@@ -1,4 +1,6 @@
+pub mod Stays
 pub mod Final
+pub mod Short
 pub mod Assertion
 pub mod Places
 pub mod Judging

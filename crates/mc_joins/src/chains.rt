@@ -3,8 +3,10 @@
 
 mod examples;
 mod laws;
+mod reading;
 
 pub use examples::{assertion_alarms, counters_are_joined, joins_of_c3, tries_of_c2};
 pub use laws::{
     changes_are_judged, final_chains_find_faults, joint_atoms_are_there, numbering_makes_well,
 };
+pub use reading::short_chains_are_legal;

@@ -1,6 +1,6 @@
 -- The last pass of a final legal chain changes nothing.
 use Rattle.std.proofs.Common.{◌≡◌, ℕ, zero, suc, List, [], ◌∷◌, ◌++◌, Bool, true, false, Some, None, map, length, slice_get, refl, sym, subst}
-use Rattle.std.specs.Prelude.{◌||◌, ◌==◌, nat_lt, replicate, Contains, if◌then◌else◌}
+use Rattle.std.specs.Prelude.{◌==◌, nat_lt, replicate, Contains, if◌then◌else◌}
 use Rattle.std.specs.List.{AllByRecursion}
 use Rattle.mc_base.specs.declared.ids.PointId.{PointId}
 use Rattle.mc_base.specs.declared.plain.VarInfo.{VarInfo}
@@ -17,16 +17,17 @@ use Rattle.mc_state.specs.State.{State}
 use Rattle.mc_joins.specs.Same.Same.{anew}
 use Rattle.mc_kernel.specs.Branches.{Head, Path, AreCuts, entry_path, begins, roots, states_at}
 use Rattle.mc_kernel.specs.Certificates.{AreHeads, IsLastPass, LastPassFindsFaults, WrittenHead, states_of}
-use Rattle.mc_kernel.specs.Instances.{IsInstance, Reads}
+use Rattle.mc_kernel.specs.Instances.{IsInstance}
 use Rattle.mc_joins.specs.Parts.{Basis}
 use Rattle.mc_kernel.specs.Reading.Documents.{IsMade}
 use Rattle.mc_kernel.specs.Reading.Laws.{LinesMakeWellMade}
-use Rattle.mc_joins.specs.Chains.Chains.{changes, changes_some, over, IsPassLine, ReadsPass, ReadsPasses, last_pass}
+use Rattle.mc_joins.specs.Chains.Chains.{changes_some, over, IsPassLine, ReadsPass, ReadsPasses, last_pass}
 use Rattle.mc_joins.specs.Same.Laws.{AnewIsBounded}
 use Rattle.mc_joins.specs.Laws.{JoinsMakeWell}
 use Rattle.mc_joins.specs.Chains.Laws.{FinalChainHasLastPass, FinalChainFindsFaults}
 use Rattle.mc_joins.specs.Chains.Opened.{with_state_at, with_state_for}
 use Rattle.mc_joins.proofs.ChainsLemmas.NewStates.{NewStatesAreMade, new_states}
+use Rattle.mc_joins.proofs.ChainsLemmas.Stays.{pass_stays}
 
 -- ---- the entry
 
@@ -106,10 +107,10 @@ module _ (made_lines : LinesMakeWellMade) (unknown : UnknownIsBounded) (flow : F
   roots_are [] a = tt
   roots_are (h ∷ heads) a = (a.0.1, roots_are heads a.1)
 
-  roots_made : (heads : List Head) → AllByRecursion Good heads → AllByRecursion (IsMade flow defs) (roots flow heads)
+  pub roots_made : (heads : List Head) → AllByRecursion Good heads → AllByRecursion (IsMade flow defs) (roots flow heads)
   roots_made heads a = (entry_made unknown flow defs, roots_are heads a)
 
-  line_keeps : (round : ℕ) (heads mid : List Head) (line : Line) (b : Path) (next : List Path) → AllByRecursion Good heads → IsMade flow defs b
+  pub line_keeps : (round : ℕ) (heads mid : List Head) (line : Line) (b : Path) (next : List Path) → AllByRecursion Good heads → IsMade flow defs b
       → IsPassLine flow basis round (over cuts heads) line b next mid → AllByRecursion (IsMade flow defs) next × AllByRecursion Good mid
   line_keeps round heads mid line b next good made i = at line i
     where
@@ -129,38 +130,13 @@ module _ (made_lines : LinesMakeWellMade) (unknown : UnknownIsBounded) (flow : F
           )
       at l i = plain l i.0 i.1
 
-  pass_keeps : (round : ℕ) (rules : List Line) (bs stuck : List Path) (heads after : List Head) → AllByRecursion Good heads → AllByRecursion (IsMade flow defs) bs
+  pub pass_keeps : (round : ℕ) (rules : List Line) (bs stuck : List Path) (heads after : List Head) → AllByRecursion Good heads → AllByRecursion (IsMade flow defs) bs
       → ReadsPass flow basis round cuts rules bs stuck heads after → AllByRecursion Good after
   pass_keeps round [] bs stuck heads after good made r = subst (AllByRecursion Good) (sym r.2) good
   pass_keeps round (line ∷ rules) [] stuck heads after good made r = absurd r
   pass_keeps round (line ∷ rules) (b ∷ bs) stuck heads after good made (next, mid, later, i, reads, e) =
       let kept = line_keeps round heads mid line b next good made.0 i in
       pass_keeps round rules (next ++ bs) later mid after kept.1 (all_join (IsMade flow defs) next bs kept.0 made.1) reads
-
-  -- a line that changes nothing is an instance
-  line_stays : (round : ℕ) (heads mid : List Head) (line : Line) (b : Path) (next : List Path) → changes line ≡ false
-      → IsPassLine flow basis round (over cuts heads) line b next mid → IsInstance flow defs (over cuts heads) line b next × (mid ≡ heads)
-  line_stays round heads mid line b next none i = at line none i
-    where
-      at : (l : Line) → changes l ≡ false → IsPassLine flow basis round (over cuts heads) l b next mid → IsInstance flow defs (over cuts heads) l b next × (mid ≡ heads)
-      at (C2 tries) none i = absurd (cc none)
-      at (C3 j steps) none i = absurd (cc none)
-      at l none i = (i.0, i.1)
-
-  neither : (a b : Bool) → (a || b) ≡ false → (a ≡ false) × (b ≡ false)
-  neither false b e = (refl, e)
-  neither true b e = absurd (cc e)
-
-  pass_stays : (round : ℕ) (rules : List Line) (bs stuck : List Path) (heads after : List Head) → changes_some rules ≡ false
-      → ReadsPass flow basis round cuts rules bs stuck heads after → Reads flow defs (over cuts heads) rules bs stuck × (after ≡ heads)
-  pass_stays round [] bs stuck heads after none r = ((r.0, r.1), r.2)
-  pass_stays round (line ∷ rules) [] stuck heads after none r = absurd r
-  pass_stays round (line ∷ rules) (b ∷ bs) stuck heads after none (next, mid, later, i, reads, e) =
-      let both = neither (changes line) (changes_some rules) none in
-      let here = line_stays round heads mid line b next both.0 i in
-      let rest = pass_stays round rules (next ++ bs) later heads after both.1
-      (subst (λ (hs : List Head). ReadsPass flow basis round cuts rules (next ++ bs) later hs after) here.1 reads) in
-      ((next, later, here.0, rest.0, e), rest.1)
 
   bounded : (heads : List Head) → AllByRecursion Good heads → AllByRecursion (λ (h : Head). IsBounded h.1) heads
   bounded [] a = tt
@@ -175,14 +151,14 @@ module _ (made_lines : LinesMakeWellMade) (unknown : UnknownIsBounded) (flow : F
       → IsLastPass flow defs cuts after (last_pass passes) stuck
   last_of cuts_are round [] stuck heads after good none r = absurd r
   last_of cuts_are round (rules ∷ []) stuck heads after good none r =
-      let stays = pass_stays round rules (roots flow heads) stuck heads after none r in
+      let stays = pass_stays flow basis cuts round rules (roots flow heads) stuck heads after none r in
       subst (λ (hs : List Head). IsLastPass flow defs cuts hs rules stuck) (sym stays.1)
       (record { cuts_are = cuts_are; at_cuts = at_cuts heads good; bounded = bounded heads good; reads = stays.0 })
   last_of cuts_are round (rules ∷ more ∷ passes) stuck heads after good none (changed, own, mid, pass, reads) =
       last_of cuts_are (suc round) (more ∷ passes) stuck mid after (pass_keeps round rules (roots flow heads) own heads mid good (roots_made heads good) pass) none reads
 
 -- the states of written heads are at cuts, and well made
-good_heads : (cuts : List PointId) (flow : Flow) (defs : List Def) (written : List WrittenHead) → AreHeads flow defs cuts written
+pub good_heads : (cuts : List PointId) (flow : Flow) (defs : List Def) (written : List WrittenHead) → AreHeads flow defs cuts written
     → AllByRecursion (λ (h : Head). Contains cuts h.0 × IsWellMade defs flow.vars flow.structs.list h.1) (states_of written)
 good_heads cuts flow defs [] a = tt
 good_heads cuts flow defs (h ∷ written) a = ((a.0.0, a.0.1.made), good_heads cuts flow defs written a.1)

@@ -25,6 +25,7 @@ use Rattle.mc_joins.specs.Parts.{Basis}
 use Rattle.mc_joins.specs.Steps.{after_steps, is_stuck}
 use Rattle.mc_joins.specs.Whole.{result_of}
 use Rattle.mc_joins.specs.Chains.Chains.{changes, over}
+use Rattle.mc_joins.specs.Chains.InOrder.{in_order}
 use Rattle.mc_joins.specs.Chains.Opened.{with_state_at, with_state_for}
 
 -- what the lines of chains are judged by: what other lines are, which written states are well formed, which states are tidy, the
@@ -203,17 +204,10 @@ reading_line k flow defs line.Pass r = reading_pass flow r
 reading_line k flow defs line.End r = reading_end r
 reading_line k flow defs l r = reading_rule k flow defs l r
 
--- what comes of the lines after a line; or the line's number and its first premise that is unmet
-abbrev pub behind : ℕ → Judged Reading → (Reading → Result Reading (ℕ × ℕ)) → Result Reading (ℕ × ℕ)
-behind number (Ok r) rest = rest r
-behind number (Err k) rest = Err (number, k)
-
 -- what a chain becomes by lines that are numbered from one on, or the number of the first refused one with its first
 -- unmet premise
 abbrev pub reading_lines : Lore → Flow → List Def → ℕ → List Line → Reading → Result Reading (ℕ × ℕ)
-reading_lines k flow defs number [] r = Ok r
-reading_lines k flow defs number (l ∷ lines) r =
-    behind number (reading_line k flow defs l r) (reading_lines k flow defs (suc number) lines)
+reading_lines k flow defs = in_order (reading_line k flow defs)
 
 -- what becomes of a chain by the lines after its header
 abbrev pub reading_chain : Lore → Flow → List Def → List Line → Result Reading (ℕ × ℕ)

@@ -17,6 +17,8 @@ use Rattle.mc_state.specs.State.{State}
 use Rattle.mc_joins.specs.Same.Same.{AreSameUnder, anew}
 use Rattle.mc_kernel.specs.Branches.{Path, Setting, states_at}
 use Rattle.mc_kernel.specs.Certificates.{IsLastPass, FaultsOnlyStuck}
+use Rattle.mc_kernel.specs.JudgedLaws.{IsAsked}
+use Rattle.mc_kernel.specs.Reading.Documents.{IsMade}
 use Rattle.mc_joins.specs.Joinings.{Joining, begun, next_pair}
 use Rattle.mc_joins.specs.Steps.{after_steps}
 use Rattle.mc_joins.specs.Whole.{AreJointAtoms, result_of}
@@ -40,9 +42,12 @@ pub record IsWholeJoin (know : State → Test) (flow : Flow) (defs : List Def) (
   pub reached : after_steps (record { know = know; defs = defs }) (begun left right) steps ≡ Some last
   pub done : next_pair last ≡ None
 
--- what the lines of chains are judged by is right
+-- what the lines of chains are judged by is right: what is entailed in states, and what else is asked of a branch with a
+-- well-made state; which written states are well formed, and which states are tidy; the atoms of whole joins; and
+-- which states are the same
 pub record IsRight (k : Lore) (flow : Flow) (defs : List Def) : Type 0 where
   pub knows : KnowsStates flow defs k.lines.know
+  pub asked : (b : Path) → IsMade flow defs b → IsAsked k.lines flow defs b
   pub formed : (raw : RawState) → (k.formed raw ≡ true) ↔ IsWellFormedRaw defs flow.vars flow.structs.list raw
   pub tidy : (s : State) → Made flow defs s → (k.tidy s ≡ true) ↔ IsTidy s
   pub joint : (round : ℕ) (left right : State) (steps : List JoinStep) (last : Joining)

@@ -1,0 +1,17 @@
+// What reading chains line by line says. Each law is what a function with no body ensures.
+ghost use Rattle.mc_joins.specs.Chains.ReadLaws.{PassLinesAreJudged, BegunChainIsKept, LinesKeepChains, PassLinesAreRead};
+ghost use Rattle.mc_joins.specs.Chains.ReadLaws.{LegalChainsAreRead, AlarmsAreSaid, NoAlarmIsSaid, UnfinishedIsSaid, OpenIsSaid};
+ghost use Rattle.mc_joins.specs.Chains.ReadLaws.{ShortChainsAreLegal, LinesAreAdded, RefusalsAreRead, RefusalIsOne};
+ghost use Rattle.mc_joins.specs.Chains.ReadLaws.{ChainsAreDecided, ReadIsNotRefused, RefusedIsNeverLegal};
+
+use crate::chains::laws::changes_are_judged;
+use crate::joins_make_well;
+use crate::same::numbering_is_sound;
+use mc_kernel::lines_are_judged;
+use mc_kernel::reading::lines_make_well_made;
+use mc_state::numbers_stay_bounded;
+
+/// A final legal chain of one pass is what a chain of one pass is where no line changes the states of cuts.
+pub fn short_chains_are_legal()
+    ensures { ShortChainsAreLegal }
+{}
