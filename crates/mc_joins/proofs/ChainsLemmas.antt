@@ -1,6 +1,8 @@
 pub mod Stays
 pub mod Final
 pub mod Short
+pub mod InOrder
+pub mod ReadRefused
 pub mod Assertion
 pub mod Places
 pub mod Judging

@@ -15,3 +15,12 @@ use mc_state::numbers_stay_bounded;
 pub fn short_chains_are_legal()
     ensures { ShortChainsAreLegal }
 {}
+
+/// A chain goes on line by line. It has ended, is open, or has one line that is refused, with one premise.
+pub fn refusals_are_one()
+    ensures added { LinesAreAdded }
+    ensures answered { RefusalsAreRead }
+    ensures once { RefusalIsOne }
+    ensures decided { ChainsAreDecided }
+    ensures apart { ReadIsNotRefused }
+{}
