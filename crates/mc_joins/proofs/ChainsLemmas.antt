@@ -3,6 +3,7 @@ pub mod Final
 pub mod Short
 pub mod InOrder
 pub mod ReadRefused
+pub mod ReadLines
 pub mod Assertion
 pub mod Places
 pub mod Judging

@@ -73,7 +73,7 @@ module _ (Q : State → Type 0) where
   some_at true s states q a = (q, a)
   some_at false s states q a = a
 
-  all_at : (p : PointId) (heads : List Head) → AllByRecursion (λ h. Q h.1) heads → AllByRecursion Q (states_at p heads)
+  pub all_at : (p : PointId) (heads : List Head) → AllByRecursion (λ h. Q h.1) heads → AllByRecursion Q (states_at p heads)
   all_at p [] a = tt
   all_at p (h ∷ heads) a = some_at (h.0.0 == p.0) h.1 (states_at p heads) a.0 (all_at p heads a.1)
 
@@ -99,7 +99,7 @@ module _ (made_lines : LinesMakeWellMade) (unknown : UnknownIsBounded) (flow : F
   abbrev basis : Basis
   basis = record { know = know; defs = defs }
 
-  states_made : (heads : List Head) → AllByRecursion Good heads → AllByRecursion (λ (h : Head). Made h.1) heads
+  pub states_made : (heads : List Head) → AllByRecursion Good heads → AllByRecursion (λ (h : Head). Made h.1) heads
   states_made [] a = tt
   states_made (h ∷ heads) a = (a.0.1, states_made heads a.1)
 

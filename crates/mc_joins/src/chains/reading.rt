@@ -24,3 +24,20 @@ pub fn refusals_are_one()
     ensures decided { ChainsAreDecided }
     ensures apart { ReadIsNotRefused }
 {}
+
+/// A line of a pass gives these branches and these states of cuts exactly where it is an instance, and is read exactly
+/// where it is one at the first open branch. The states of cuts of a chain that is read are at cuts, and they and
+/// those of its open branches are well made, whatever lines are read.
+pub fn lines_are_read()
+    ensures judged { PassLinesAreJudged }
+    ensures begun { BegunChainIsKept }
+    ensures kept { LinesKeepChains }
+    ensures read { PassLinesAreRead }
+{
+    changes_are_judged();
+    joins_make_well();
+    lines_are_judged();
+    lines_make_well_made();
+    numbering_is_sound();
+    numbers_stay_bounded();
+}
