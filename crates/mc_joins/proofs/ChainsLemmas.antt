@@ -4,6 +4,9 @@ pub mod Short
 pub mod InOrder
 pub mod ReadRefused
 pub mod ReadLines
+pub mod ReadPasses
+pub mod ReadFront
+pub mod ReadWhole
 pub mod Assertion
 pub mod Places
 pub mod Judging

@@ -41,3 +41,22 @@ pub fn lines_are_read()
     numbering_is_sound();
     numbers_stay_bounded();
 }
+
+/// The lines after its header are read to the end exactly where the document is a legal chain, with its stuck branches
+/// and its states of cuts; and alarms, none, or that it is not final, are said of it exactly where they hold. No legal
+/// chain goes on from lines of which one is refused.
+pub fn legal_chains_are_read()
+    ensures legal { LegalChainsAreRead }
+    ensures alarms { AlarmsAreSaid }
+    ensures no_alarm { NoAlarmIsSaid }
+    ensures unfinished { UnfinishedIsSaid }
+    ensures early { OpenIsSaid }
+    ensures never_legal { RefusedIsNeverLegal }
+{
+    changes_are_judged();
+    joins_make_well();
+    lines_are_judged();
+    lines_make_well_made();
+    numbering_is_sound();
+    numbers_stay_bounded();
+}
