@@ -5,7 +5,10 @@ mod examples;
 mod laws;
 mod reading;
 
-pub use examples::{assertion_alarms, counters_are_joined, joins_of_c3, tries_of_c2};
+pub use examples::{
+    assertion_alarms, assertion_is_read, chain_lines_are_refused, counters_are_joined, joins_of_c3,
+    tries_of_c2,
+};
 pub use laws::{
     changes_are_judged, final_chains_find_faults, joint_atoms_are_there, numbering_makes_well,
 };

@@ -1,5 +1,5 @@
 -- Chains of small programs.
-use Rattle.std.specs.Prelude.{pos, Bool, true, false, None, List, [], ◌∷◌, ◌++◌}
+use Rattle.std.specs.Prelude.{pos, Bool, true, false, Some, None, List, [], ◌∷◌, ◌++◌}
 use Rattle.mc_base.specs.Nodes.{null}
 use Rattle.mc_lines.specs.declared.cert.line.Line.{Line}
 use Rattle.mc_state.specs.declared.line.InstrRule.TheVariants.{S1, S3, S4, S13}
@@ -12,6 +12,7 @@ use Rattle.mc_state.specs.declared.line.Form.TheVariants.{Chain}
 use Rattle.mc_state.specs.declared.line.Version.TheVariants.{One}
 use Rattle.mc_kernel.specs.Branches.{Head, Path, Setting}
 use Rattle.mc_kernel.specs.Examples.{at, var, flow_of, loop_vars}
+use Rattle.mc_rules_steps.specs.declared.gap.Gap.TheVariants.{Reached}
 use Rattle.mc_state.specs.State.{State}
 use Rattle.mc_joins.specs.Examples.{by_atoms}
 use Rattle.mc_joins.specs.Chains.Chains.{over}
@@ -55,13 +56,21 @@ second_pass =
     Step S1 ∷ L13 0 (null ∷ []) [] ∷ Step S1 ∷ Step S4 ∷ Step S13 ∷ Step S3 ∷ Step S1 ∷ Step S13
     ∷ C1 ∷ L12 ∷ Step S3 ∷ L13 0 (null ∷ []) [] ∷ []
 
+-- the lines of its chain, after the header
+abbrev pub assert_lines : List Line
+assert_lines = Cut (at 1) ∷ Pass ∷ (first_pass ++ (Pass ∷ (second_pass ++ End ∷ [])))
+
 -- its chain
 abbrev pub assert_document : List Line
-assert_document = Header One Chain ∷ Cut (at 1) ∷ Pass ∷ (first_pass ++ (Pass ∷ (second_pass ++ End ∷ [])))
+assert_document = Header One Chain ∷ assert_lines
 
--- the chain that ends after its first pass
+-- those of the chain that ends after its first pass
+abbrev pub short_lines : List Line
+short_lines = Cut (at 1) ∷ Pass ∷ (first_pass ++ End ∷ [])
+
+-- that chain
 abbrev pub short_document : List Line
-short_document = Header One Chain ∷ Cut (at 1) ∷ Pass ∷ (first_pass ++ End ∷ [])
+short_document = Header One Chain ∷ short_lines
 
 -- ---- C2 and C3
 
@@ -76,6 +85,10 @@ with_one s = over (at 1 ∷ []) ((at 1, s) ∷ [])
 -- where what is known is what states write, and both states are tidy
 abbrev pub told : Lore → Lore
 told k = record k { lines = record k.lines { know = by_atoms.know }; tidy = λ s. true }
+
+-- where besides no instruction may be reached
+abbrev pub told_reached : Lore → Lore
+told_reached k = record (told k) { lines = record (told k).lines { gap = λ p s. Some Reached } }
 
 -- where besides a join writes no atom, and states are the same or not
 abbrev pub told_same : Bool → Lore → Lore
