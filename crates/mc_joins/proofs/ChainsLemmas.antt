@@ -7,6 +7,8 @@ pub mod ReadLines
 pub mod ReadPasses
 pub mod ReadFront
 pub mod ReadWhole
+pub mod LinesAgree
+pub mod ReadAgree
 pub mod Assertion
 pub mod Places
 pub mod Judging

@@ -109,3 +109,17 @@ module _ {A : Type 0} (judge : Line → A → Judged A) where
       at : (answer : Result A (ℕ × ℕ)) → in_order judge n lines r ≡ answer → ((last : A) × (in_order judge n lines r ≡ Ok last)) ⊎ ((a : ℕ) × (b : ℕ) × IsRefused judge n r lines a b)
       at (Ok last) e = inl (last, e)
       at (Err (a, b)) e = inr (a, b, refused_from n lines r a b e)
+
+-- two judges that judge alike whatever has a property, which lines keep, read alike
+pub in_order_same : {A : Type 0} (judge other : Line → A → Judged A) (P : A → Type 0) → ((l : Line) (r : A) → P r → judge l r ≡ other l r)
+    → ((l : Line) (r next : A) → P r → judge l r ≡ Ok next → P next) → (n : ℕ) (lines : List Line) (r : A) → P r → in_order judge n lines r ≡ in_order other n lines r
+in_order_same judge other P same keeps n [] r p = refl
+in_order_same judge other P same keeps n (l ∷ lines) r p = elim (given_or_unmet (judge l r)) [
+  | inl given ↦
+      behind_yes n (judge l r) (in_order judge (suc n) lines) given.0 given.1
+      ∙ in_order_same judge other P same keeps (suc n) lines given.0 (keeps l r given.0 p given.1)
+      ∙ sym (behind_yes n (other l r) (in_order other (suc n) lines) given.0 (sym (same l r p) ∙ given.1))
+  | inr unmet ↦
+      behind_err n unmet.0 (in_order judge (suc n) lines) (judge l r) unmet.1
+      ∙ sym (behind_err n unmet.0 (in_order other (suc n) lines) (other l r) (sym (same l r p) ∙ unmet.1))
+]

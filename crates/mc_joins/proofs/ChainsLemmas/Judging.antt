@@ -51,7 +51,7 @@ module _ (w : Basis) (right left : State) (steps : List JoinStep) where
   none_of None last other e = (refl, cc e)
   none_of (Some p) last other e = absurd (cc e)
 
-  whole_from : (last : Joining) → whole_join w left right steps ≡ Some last → (after_steps w (begun left right) steps ≡ Some last) × (next_pair last ≡ None)
+  pub whole_from : (last : Joining) → whole_join w left right steps ≡ Some last → (after_steps w (begun left right) steps ≡ Some last) × (next_pair last ≡ None)
   whole_from last e = at (after_steps w (begun left right) steps) refl e
     where
       at : (o : Option Joining) → after_steps w (begun left right) steps ≡ o
@@ -85,7 +85,7 @@ tries_to w right (s ∷ lefts) [] a = absurd a
 tries_to w right (s ∷ lefts) (t ∷ tries) a =
     and_yes (gets_stuck w right s t) (all_both (gets_stuck w right) lefts tries) (stuck_to w right s t a.0) (tries_to w right lefts tries a.1)
 
-one_of : (Q : State → Type 0) (states : List State) (j : ℕ) (s : State) → AllByRecursion Q states → slice_get states j ≡ Some s → Q s
+pub one_of : (Q : State → Type 0) (states : List State) (j : ℕ) (s : State) → AllByRecursion Q states → slice_get states j ≡ Some s → Q s
 one_of Q [] j s a e = absurd (cc e)
 one_of Q (t ∷ states) zero s a e = let same : t ≡ s = cc e in subst Q same a.0
 one_of Q (t ∷ states) (suc j) s a e = one_of Q states j s a.1 e

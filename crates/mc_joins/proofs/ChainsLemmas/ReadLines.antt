@@ -122,7 +122,7 @@ module _ (laws : Laws) (k : Lore) (flow : Flow) (defs : List Def) (right : IsRig
   abbrev Good : List PointId → Head → Type 0
   Good cuts h = Contains cuts h.0 × Made flow defs h.1
 
-  states_good : (cuts : List PointId) (p : PointId) (heads : List Head) → AllByRecursion (Good cuts) heads → AllByRecursion (Made flow defs) (states_at p heads)
+  pub states_good : (cuts : List PointId) (p : PointId) (heads : List Head) → AllByRecursion (Good cuts) heads → AllByRecursion (Made flow defs) (states_at p heads)
   states_good cuts p heads good = all_at (Made flow defs) p heads (only heads good)
     where
       only : (heads : List Head) → AllByRecursion (Good cuts) heads → AllByRecursion (λ (h : Head). Made flow defs h.1) heads

@@ -2,10 +2,10 @@
 ghost use Rattle.mc_joins.specs.Chains.ReadLaws.{PassLinesAreJudged, BegunChainIsKept, LinesKeepChains, PassLinesAreRead};
 ghost use Rattle.mc_joins.specs.Chains.ReadLaws.{LegalChainsAreRead, AlarmsAreSaid, NoAlarmIsSaid, UnfinishedIsSaid, OpenIsSaid};
 ghost use Rattle.mc_joins.specs.Chains.ReadLaws.{ShortChainsAreLegal, LinesAreAdded, RefusalsAreRead, RefusalIsOne};
-ghost use Rattle.mc_joins.specs.Chains.ReadLaws.{ChainsAreDecided, ReadIsNotRefused, RefusedIsNeverLegal};
+ghost use Rattle.mc_joins.specs.Chains.ReadLaws.{ChainsAreDecided, ReadIsNotRefused, RefusedIsNeverLegal, ChainJudgesAgree};
 
 use crate::chains::laws::changes_are_judged;
-use crate::joins_make_well;
+use crate::{joins_are_determined, joins_make_well, steps_are_determined, stuck_is_every};
 use crate::same::numbering_is_sound;
 use mc_kernel::lines_are_judged;
 use mc_kernel::reading::lines_make_well_made;
@@ -59,4 +59,20 @@ pub fn legal_chains_are_read()
     lines_make_well_made();
     numbering_is_sound();
     numbers_stay_bounded();
+}
+
+/// What judges rightly judges alike: which line of a chain is refused, and its premise, are the chain's own, and so is
+/// what it becomes.
+pub fn chain_judges_agree()
+    ensures { ChainJudgesAgree }
+{
+    changes_are_judged();
+    joins_are_determined();
+    joins_make_well();
+    lines_are_judged();
+    lines_make_well_made();
+    numbering_is_sound();
+    numbers_stay_bounded();
+    steps_are_determined();
+    stuck_is_every();
 }
