@@ -1,6 +1,6 @@
 -- The first line that is refused, and lines that are added, by whatever judges a line.
 use Rattle.std.proofs.Common.{◌≡◌, ◌⊎◌, inl, inr, ◌+◌, ℕ, suc, List, [], ◌∷◌, ◌++◌, length, refl, ap, sym, ◌∙◌, arith}
-use Rattle.std.specs.Prelude.{◌↔◌, Result, Ok, Err}
+use Rattle.std.specs.Prelude.{Result, Ok, Err}
 use Rattle.mc_lines.specs.declared.cert.line.Line.{Line}
 use Rattle.mc_state.specs.Premises.{Judged}
 use Rattle.mc_state.proofs.Numbered.{given_or_unmet}

@@ -1,12 +1,11 @@
 -- Two right lores read each chain alike.
-use Rattle.std.proofs.Common.{◌≡◌, ◌+◌, ℕ, suc, List, [], ◌∷◌, ◌++◌, Bool, true, false, not, Option, Some, None, length, slice_get, refl, ap, sym, subst, ◌∙◌}
-use Rattle.std.specs.Prelude.{◌&&◌, ◌||◌, ◌==◌, Ok, Err, is_none, is_some, option_and_then, if◌then◌else◌}
+use Rattle.std.proofs.Common.{◌≡◌, ℕ, List, [], ◌∷◌, ◌++◌, Bool, true, false, not, Option, Some, None, length, slice_get, refl, ap, sym, subst, ◌∙◌}
+use Rattle.std.specs.Prelude.{◌&&◌, ◌||◌, ◌==◌, Ok, is_none, is_some, option_and_then, if◌then◌else◌}
 use Rattle.std.specs.List.{AllByRecursion, list_all}
 use Rattle.mc_lines.specs.declared.cert.line.Line.{Line}
 use Rattle.mc_lines.specs.declared.cert.line.Line.TheVariants as line
 use Rattle.mc_flow.specs.declared.defs.rules.Def.{Def}
 use Rattle.mc_flow.specs.declared.graph.Flow.{Flow}
-use Rattle.mc_flow.specs.Valid.{IsValid}
 use Rattle.mc_state.specs.Facts.{IsTidy}
 use Rattle.mc_state.specs.Known.{Test, is_false}
 use Rattle.mc_state.specs.Lists.{all_both}
@@ -16,7 +15,7 @@ use Rattle.mc_state.specs.declared.line.JoinStep.{JoinStep}
 use Rattle.mc_state.specs.declared.raw_state.RawState.{RawState}
 use Rattle.mc_state.specs.RawStates.{state_of}
 use Rattle.mc_kernel.specs.Branches.{Head, Path, Setting, states_at}
-use Rattle.mc_kernel.specs.Judges.{is_cut, judged_line}
+use Rattle.mc_kernel.specs.Judges.{is_cut}
 use Rattle.mc_kernel.specs.Reading.Documents.{IsMade}
 use Rattle.mc_kernel.specs.Readings.{first_branch, marked}
 use Rattle.mc_kernel.proofs.ReadingLemmas.Kept.{first_is}
@@ -27,8 +26,8 @@ use Rattle.mc_joins.specs.Steps.{after_step, after_steps, is_stuck}
 use Rattle.mc_joins.specs.Whole.{Joins}
 use Rattle.mc_joins.specs.Chains.Chains.{changes, over}
 use Rattle.mc_joins.specs.Chains.Judges.{Lore, Outcome, Reading, basis, begun_chain, gets_stuck, given_by, heading, is_passing, joining_state, may_change, may_head, opening_state, passing_line, reading_line, reading_rule, stands_behind, whole_join}
-use Rattle.mc_joins.specs.Chains.Laws.{IsRight, IsWholeJoin, Made}
-use Rattle.mc_joins.specs.Chains.Opened.{with_state_at, with_state_for}
+use Rattle.mc_joins.specs.Chains.Laws.{IsRight, Made}
+use Rattle.mc_joins.specs.Chains.Opened.{with_state_for}
 use Rattle.mc_joins.specs.Chains.Read.{IsKept}
 use Rattle.mc_joins.specs.Chains.ReadLaws.{ChainJudgesAgree}
 use Rattle.mc_joins.proofs.ChainsLemmas.InOrder.{in_order_same}

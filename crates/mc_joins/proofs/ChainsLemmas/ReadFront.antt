@@ -1,5 +1,5 @@
 -- Cuts and heads of chains, read in front of their passes.
-use Rattle.std.proofs.Common.{◌≡◌, ℕ, suc, List, [], ◌∷◌, ◌++◌, Bool, true, false, not, Option, Some, map, refl, ap, sym, subst, ◌∙◌}
+use Rattle.std.proofs.Common.{◌≡◌, ℕ, suc, List, [], ◌∷◌, ◌++◌, true, false, Option, Some, map, refl, ap, sym, subst, ◌∙◌}
 use Rattle.std.specs.Prelude.{◌↔◌, Result, Ok, Contains, ◌&&◌}
 use Rattle.std.specs.List.{AllByRecursion}
 use Rattle.mc_base.specs.declared.ids.PointId.{PointId}
@@ -23,7 +23,7 @@ use Rattle.mc_kernel.specs.Readings.{comes_after, has_all_heads, is_skip, stands
 use Rattle.mc_kernel.proofs.ReadingLemmas.Front.{head_line}
 use Rattle.mc_kernel.proofs.ReadingLemmas.Lists.{all_end, append_none, append_end, ascend_end, ascend_after, ordered_end, ordered_after, cut_from, cut_to}
 use Rattle.mc_joins.specs.Chains.InOrder.{behind}
-use Rattle.mc_joins.specs.Chains.Judges.{Lore, Reading, cutting, finished, heading, may_head, may_pass, reading_cut, reading_head, reading_lines, reading_pass, stands_behind}
+use Rattle.mc_joins.specs.Chains.Judges.{Lore, Reading, cutting, finished, heading, reading_cut, reading_head, reading_lines, reading_pass, stands_behind}
 use Rattle.mc_joins.proofs.ChainsLemmas.InOrder.{behind_ok, behind_yes, same_reading}
 use Rattle.mc_joins.proofs.ChainsLemmas.ReadPasses.{passing_at}
 

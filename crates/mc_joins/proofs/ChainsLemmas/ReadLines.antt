@@ -1,5 +1,5 @@
 -- Lines of passes are judged by their instances, and what stays so, line by line.
-use Rattle.std.proofs.Common.{◌≡◌, ◌+◌, ◌<◌, ℕ, zero, suc, List, [], ◌∷◌, ◌++◌, Bool, true, false, not, refl, ap, sym, subst, ◌∙◌, arith}
+use Rattle.std.proofs.Common.{◌≡◌, ℕ, zero, suc, List, [], ◌∷◌, ◌++◌, true, false, not, refl, ap, sym, subst, ◌∙◌, arith}
 use Rattle.std.specs.Prelude.{Ok, Contains, ◌&&◌, ◌||◌}
 use Rattle.std.specs.List.{AllByRecursion}
 use Rattle.mc_base.specs.declared.ids.PointId.{PointId}
@@ -31,7 +31,7 @@ use Rattle.mc_joins.specs.Chains.Laws.{IsRight, JoiningIsJudged, Made, OpeningIs
 use Rattle.mc_joins.specs.Chains.Opened.{JoinsState, OpensState}
 use Rattle.mc_joins.specs.Chains.Read.{IsKept, IsReadAt}
 use Rattle.mc_joins.specs.Chains.ReadLaws.{BegunChainIsKept, LinesKeepChains, PassLinesAreJudged, PassLinesAreRead}
-use Rattle.mc_joins.proofs.ChainsLemmas.Final.{all_at, line_keeps, roots_made, states_made}
+use Rattle.mc_joins.proofs.ChainsLemmas.Final.{all_at, line_keeps, roots_made}
 use Rattle.mc_joins.proofs.ChainsLemmas.NewStates.{NewStatesAreMade, new_states}
 
 -- what is used of lines, of new states and of joins

@@ -1,6 +1,6 @@
 -- Passes that are read one after the other, up to the end.
-use Rattle.std.proofs.Common.{◌≡◌, ◌+◌, ℕ, suc, List, [], ◌∷◌, ◌++◌, Bool, true, false, not, length, refl, ap, sym, subst, ◌∙◌, arith}
-use Rattle.std.specs.Prelude.{Result, Ok, Contains, flat_map, ◌&&◌, ◌||◌}
+use Rattle.std.proofs.Common.{◌≡◌, ◌+◌, ℕ, suc, List, [], ◌∷◌, ◌++◌, Bool, true, false, length, refl, ap, sym, subst, ◌∙◌, arith}
+use Rattle.std.specs.Prelude.{Result, Ok, Contains, flat_map, ◌||◌}
 use Rattle.std.specs.List.{AllByRecursion}
 use Rattle.mc_base.specs.declared.ids.PointId.{PointId}
 use Rattle.mc_lines.specs.declared.cert.line.Line.{Line}
@@ -8,8 +8,6 @@ use Rattle.mc_lines.specs.declared.cert.line.Line.TheVariants as line
 use Rattle.mc_flow.specs.declared.defs.rules.Def.{Def}
 use Rattle.mc_flow.specs.declared.graph.Flow.{Flow}
 use Rattle.mc_flow.specs.Valid.{IsValid}
-use Rattle.mc_state.specs.Premises.{Judged, need}
-use Rattle.mc_state.proofs.Numbered.{need_ok}
 use Rattle.mc_kernel.specs.Branches.{Head, Path, roots}
 use Rattle.mc_kernel.specs.Instances.{stuck_by}
 use Rattle.mc_kernel.specs.Readings.{marked}
@@ -238,7 +236,7 @@ module _ (laws : Laws) (k : Lore) (flow : Flow) (defs : List Def) (right : IsRig
   rules_to n [] ending heads mid round bs own stuck changed kept r = (
     n,
     ap (lines_at n ending)
-    (same_passing heads mid round bs [] stuck (stuck ++ own) changed (changed || false) (sym r.2) r.0 (sym (append_none stuck) ∙ ap (λ (ps : List Path). stuck ++ ps) (sym r.1)) (sym (or_none changed))),
+        (same_passing heads mid round bs [] stuck (stuck ++ own) changed (changed || false) (sym r.2) r.0 (sym (append_none stuck) ∙ ap (λ (ps : List Path). stuck ++ ps) (sym r.1)) (sym (or_none changed))),
   )
   rules_to n (l ∷ rules) ending heads mid round [] own stuck changed kept r = absurd r
   rules_to n (l ∷ rules) ending heads mid round (b ∷ bs) own stuck changed kept (next, heads', later, i, reads, e) =

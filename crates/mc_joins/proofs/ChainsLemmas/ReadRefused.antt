@@ -1,10 +1,10 @@
 -- Lines of chains that are added or refused.
-use Rattle.std.proofs.Common.{◌≡◌, ◌⊎◌, inl, inr, ◌+◌, ℕ, List, length, refl, sym, ◌∙◌}
+use Rattle.std.proofs.Common.{◌≡◌, ◌⊎◌, inl, inr, ◌+◌, List, length, refl, sym, ◌∙◌}
 use Rattle.std.specs.Prelude.{Ok}
 use Rattle.mc_lines.specs.declared.cert.line.Line.{Line}
 use Rattle.mc_flow.specs.declared.defs.rules.Def.{Def}
 use Rattle.mc_flow.specs.declared.graph.Flow.{Flow}
-use Rattle.mc_joins.specs.Chains.Judges.{Lore, Reading, Stage, begun_chain, cutting, ends_early, finished, heading, passing, reading_chain, reading_line, verdict_at}
+use Rattle.mc_joins.specs.Chains.Judges.{Lore, Reading, Stage, begun_chain, cutting, finished, heading, passing, reading_chain, reading_line}
 use Rattle.mc_joins.specs.Chains.Read.{EndsAs, IsOpen}
 use Rattle.mc_joins.specs.Chains.ReadLaws.{ChainsAreDecided, LinesAreAdded, ReadIsNotRefused, RefusalIsOne, RefusalsAreRead}
 use Rattle.mc_joins.proofs.ChainsLemmas.InOrder.{lines_split, read_is_decided, read_or_refused, refused_from, refused_once, refused_to}

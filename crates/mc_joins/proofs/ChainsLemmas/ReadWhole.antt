@@ -1,7 +1,6 @@
 -- Whole chains, read to their ends, and what is said of them.
-use Rattle.std.proofs.Common.{◌≡◌, ◌+◌, ◌<◌, ℕ, suc, List, [], ◌∷◌, ◌++◌, Bool, true, false, length, map, refl, ap, sym, subst, ◌∙◌, zero-add, arith}
-use Rattle.std.specs.Prelude.{Result, Ok, Err, Contains, if◌then◌else◌}
-use Rattle.std.specs.List.{AllByRecursion}
+use Rattle.std.proofs.Common.{◌≡◌, ◌<◌, ℕ, suc, List, [], ◌∷◌, ◌++◌, Bool, true, false, length, map, refl, ap, sym, ◌∙◌, zero-add, arith}
+use Rattle.std.specs.Prelude.{Result, Ok, Err, if◌then◌else◌}
 use Rattle.mc_base.specs.declared.ids.PointId.{PointId}
 use Rattle.mc_lines.specs.declared.cert.line.Line.{Line}
 use Rattle.mc_lines.specs.declared.cert.line.Line.TheVariants as line
@@ -10,14 +9,14 @@ use Rattle.mc_flow.specs.declared.graph.Flow.{Flow}
 use Rattle.mc_flow.specs.Valid.{IsValid}
 use Rattle.mc_state.specs.declared.line.Form.TheVariants.{Chain}
 use Rattle.mc_state.specs.declared.line.Version.TheVariants.{One}
-use Rattle.mc_kernel.specs.Branches.{AreCuts, Path}
+use Rattle.mc_kernel.specs.Branches.{Path}
 use Rattle.mc_kernel.specs.Certificates.{WrittenHead, states_of}
 use Rattle.mc_kernel.proofs.ReadingLemmas.Front.{head_line}
 use Rattle.mc_kernel.proofs.ReadingLemmas.Lists.{all_contained, append_twice, each_contained, full_from_heads, heads_from_full}
-use Rattle.mc_joins.specs.Chains.Chains.{HasAlarms, HasNoAlarm, IsFinal, IsLegalChain, IsUnfinished, ReadsPasses, changes_some, last_pass}
-use Rattle.mc_joins.specs.Chains.Judges.{Lore, Reading, Stage, Verdict, alarms, basis, begun_chain, cutting, ends_early, finished, heading, no_alarm, passing, reading_chain, reading_line, reading_lines, unfinished, verdict_at, verdict_by, verdict_of}
+use Rattle.mc_joins.specs.Chains.Chains.{IsLegalChain, ReadsPasses, changes_some, last_pass}
+use Rattle.mc_joins.specs.Chains.Judges.{Lore, Reading, Stage, Verdict, alarms, basis, begun_chain, cutting, ends_early, finished, heading, no_alarm, passing, reading_chain, reading_line, unfinished, verdict_at, verdict_by, verdict_of}
 use Rattle.mc_joins.specs.Chains.Laws.{IsRight}
-use Rattle.mc_joins.specs.Chains.Read.{EndsAs, IsOpen, IsRefusedChain, IsSaid, at_end}
+use Rattle.mc_joins.specs.Chains.Read.{EndsAs, IsSaid, at_end}
 use Rattle.mc_joins.specs.Chains.ReadLaws.{AlarmsAreSaid, LegalChainsAreRead, NoAlarmIsSaid, OpenIsSaid, RefusedIsNeverLegal, UnfinishedIsSaid}
 use Rattle.mc_joins.proofs.ChainsLemmas.Final.{good_heads}
 use Rattle.mc_joins.proofs.ChainsLemmas.InOrder.{refused_before}

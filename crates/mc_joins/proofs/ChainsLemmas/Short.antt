@@ -1,5 +1,5 @@
 -- Chains of one pass that change no state of a cut.
-use Rattle.std.proofs.Common.{◌≡◌, ℕ, suc, List, [], ◌∷◌, ◌++◌, false, map, length, refl, ap, sym, subst, ◌∙◌, arith}
+use Rattle.std.proofs.Common.{◌≡◌, List, [], ◌∷◌, ◌++◌, map, length, refl, ap, sym, subst, ◌∙◌, arith}
 use Rattle.std.specs.Prelude.{flat_map, Contains}
 use Rattle.std.specs.List.{AllByRecursion}
 use Rattle.mc_base.specs.declared.ids.PointId.{PointId}
@@ -17,7 +17,7 @@ use Rattle.mc_kernel.specs.Reading.Documents.{IsShortChain}
 use Rattle.mc_kernel.proofs.Induction.{heads_bounded}
 use Rattle.mc_kernel.proofs.ReadingLemmas.Lists.{append_none}
 use Rattle.mc_joins.specs.Parts.{Basis}
-use Rattle.mc_joins.specs.Chains.Chains.{IsFinal, IsLegalChain, ReadsPasses}
+use Rattle.mc_joins.specs.Chains.Chains.{IsFinal, ReadsPasses}
 use Rattle.mc_joins.specs.Chains.Read.{HasOnePass}
 use Rattle.mc_joins.specs.Chains.ReadLaws.{ShortChainsAreLegal}
 use Rattle.mc_joins.proofs.ChainsLemmas.Stays.{pass_stays, rules_pass}

@@ -1,5 +1,5 @@
 -- What comes of a chain whose lines are read one after the other.
-use Rattle.std.specs.Prelude.{◌≡◌, ◌||◌, ℕ, true, List, [], ◌∷◌, ◌++◌, Ok, Contains, length}
+use Rattle.std.specs.Prelude.{◌≡◌, ◌||◌, ℕ, List, [], ◌∷◌, ◌++◌, Ok, Contains, length}
 use Rattle.std.specs.List.{AllByRecursion}
 use Rattle.mc_lines.specs.declared.cert.line.Line.{Line}
 use Rattle.mc_flow.specs.declared.defs.rules.Def.{Def}

@@ -5,8 +5,8 @@ ghost use Rattle.mc_joins.specs.Chains.ReadLaws.{ShortChainsAreLegal, LinesAreAd
 ghost use Rattle.mc_joins.specs.Chains.ReadLaws.{ChainsAreDecided, ReadIsNotRefused, RefusedIsNeverLegal, ChainJudgesAgree};
 
 use crate::chains::laws::changes_are_judged;
-use crate::{joins_are_determined, joins_make_well, steps_are_determined, stuck_is_every};
 use crate::same::numbering_is_sound;
+use crate::{joins_are_determined, joins_make_well, steps_are_determined, stuck_is_every};
 use mc_kernel::lines_are_judged;
 use mc_kernel::reading::lines_make_well_made;
 use mc_state::numbers_stay_bounded;
