@@ -42,7 +42,8 @@ module _ {A : Type 0} (judge : Line → A → Judged A) where
       ∙ lines_split (suc n) m before lines read.0 mid next read.2
 
   module _ (lines : List Line) (number premise : ℕ) where
-    refused_first : (n j : ℕ) (l : Line) (r : A) → judge l r ≡ Err j → in_order judge n (l ∷ lines) r ≡ Err (number, premise) → IsRefused judge n r (l ∷ lines) number premise
+    refused_first : (n j : ℕ) (l : Line) (r : A) → judge l r ≡ Err j → in_order judge n (l ∷ lines) r ≡ Err (number, premise)
+        → IsRefused judge n r (l ∷ lines) number premise
     refused_first n j l r unmet e =
         let same = same_refusal n j number premise (sym (behind_err n j (in_order judge (suc n) lines) (judge l r) unmet) ∙ e) in
         let first = same.0 in
@@ -57,7 +58,8 @@ module _ {A : Type 0} (judge : Line → A → Judged A) where
           unmet = unmet ∙ ap (λ (x : ℕ). Err x) same.1;
         }
 
-    refused_later : (n : ℕ) (l : Line) (r next : A) → judge l r ≡ Ok next → IsRefused judge (suc n) next lines number premise → IsRefused judge n r (l ∷ lines) number premise
+    refused_later : (n : ℕ) (l : Line) (r next : A) → judge l r ≡ Ok next → IsRefused judge (suc n) next lines number premise
+        → IsRefused judge n r (l ∷ lines) number premise
     refused_later n l r next given i = record {
       before = l ∷ i.before;
       line = i.line;
@@ -70,7 +72,8 @@ module _ {A : Type 0} (judge : Line → A → Judged A) where
     }
 
   -- a refusal is that of a line
-  pub refused_from : (n : ℕ) (lines : List Line) (r : A) (number premise : ℕ) → in_order judge n lines r ≡ Err (number, premise) → IsRefused judge n r lines number premise
+  pub refused_from : (n : ℕ) (lines : List Line) (r : A) (number premise : ℕ) → in_order judge n lines r ≡ Err (number, premise)
+      → IsRefused judge n r lines number premise
   refused_from n [] r number premise e = absurd (cc e)
   refused_from n (l ∷ lines) r number premise e = elim (given_or_unmet (judge l r)) [
     | inl given ↦
@@ -87,7 +90,8 @@ module _ {A : Type 0} (judge : Line → A → Judged A) where
       ∙ lines_split n number i.before (i.line ∷ (i.later ++ more)) r i.reading i.numbered i.read
       ∙ behind_err number premise (in_order judge (suc number) (i.later ++ more)) (judge i.line i.reading) i.unmet
 
-  pub refused_to : (n : ℕ) (lines : List Line) (r : A) (number premise : ℕ) → IsRefused judge n r lines number premise → in_order judge n lines r ≡ Err (number, premise)
+  pub refused_to : (n : ℕ) (lines : List Line) (r : A) (number premise : ℕ) → IsRefused judge n r lines number premise
+      → in_order judge n lines r ≡ Err (number, premise)
   refused_to n lines r number premise i =
       ap (λ (ls : List Line). in_order judge n ls r) i.spelled
       ∙ lines_split n number i.before (i.line ∷ i.later) r i.reading i.numbered i.read
@@ -97,22 +101,26 @@ module _ {A : Type 0} (judge : Line → A → Judged A) where
   refused_once n lines r a b c d i j = same_refusal a b c d (sym (refused_to n lines r a b i) ∙ refused_to n lines r c d j)
 
   -- nothing is both read and refused
-  pub read_or_refused : (n : ℕ) (lines : List Line) (r last : A) (number premise : ℕ) → in_order judge n lines r ≡ Ok last → IsRefused judge n r lines number premise → ⊥
+  pub read_or_refused : (n : ℕ) (lines : List Line) (r last : A) (number premise : ℕ) → in_order judge n lines r ≡ Ok last
+      → IsRefused judge n r lines number premise → ⊥
   read_or_refused n lines r last number premise e i =
       let both : ◌≡◌ {A = Result A (ℕ × ℕ)} (Ok last) (Err (number, premise)) = sym e ∙ refused_to n lines r number premise i in
       cc both
 
   -- one of the two is the case
-  pub read_is_decided : (n : ℕ) (lines : List Line) (r : A) → ((last : A) × (in_order judge n lines r ≡ Ok last)) ⊎ ((a : ℕ) × (b : ℕ) × IsRefused judge n r lines a b)
+  pub read_is_decided : (n : ℕ) (lines : List Line) (r : A)
+      → ((last : A) × (in_order judge n lines r ≡ Ok last)) ⊎ ((a : ℕ) × (b : ℕ) × IsRefused judge n r lines a b)
   read_is_decided n lines r = at (in_order judge n lines r) refl
     where
-      at : (answer : Result A (ℕ × ℕ)) → in_order judge n lines r ≡ answer → ((last : A) × (in_order judge n lines r ≡ Ok last)) ⊎ ((a : ℕ) × (b : ℕ) × IsRefused judge n r lines a b)
+      at : (answer : Result A (ℕ × ℕ)) → in_order judge n lines r ≡ answer
+          → ((last : A) × (in_order judge n lines r ≡ Ok last)) ⊎ ((a : ℕ) × (b : ℕ) × IsRefused judge n r lines a b)
       at (Ok last) e = inl (last, e)
       at (Err (a, b)) e = inr (a, b, refused_from n lines r a b e)
 
 -- two judges that judge alike whatever has a property, which lines keep, read alike
 pub in_order_same : {A : Type 0} (judge other : Line → A → Judged A) (P : A → Type 0) → ((l : Line) (r : A) → P r → judge l r ≡ other l r)
-    → ((l : Line) (r next : A) → P r → judge l r ≡ Ok next → P next) → (n : ℕ) (lines : List Line) (r : A) → P r → in_order judge n lines r ≡ in_order other n lines r
+    → ((l : Line) (r next : A) → P r → judge l r ≡ Ok next → P next) → (n : ℕ) (lines : List Line) (r : A) → P r
+    → in_order judge n lines r ≡ in_order other n lines r
 in_order_same judge other P same keeps n [] r p = refl
 in_order_same judge other P same keeps n (l ∷ lines) r p = elim (given_or_unmet (judge l r)) [
   | inl given ↦

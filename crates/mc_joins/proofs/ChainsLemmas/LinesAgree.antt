@@ -111,17 +111,21 @@ compared range s i a b =
     ∷ moved_to i.f (with_atoms before (above_atoms a b (range before a) (range before b))) ∷ []
 
 module _ (know : Test) (s : State) where
-  computing_alike : (op : Operation) (range other : Ranges) (parts : Option ResultParts) → Alike (computing op know range parts s) (computing op know other parts s)
+  computing_alike : (op : Operation) (range other : Ranges) (parts : Option ResultParts)
+      → Alike (computing op know range parts s) (computing op know other parts s)
   computing_alike op range other parts =
-      operands_alike parts (not (is_false know)) (λ i. operand_node s i.o) (λ i. operand_node (with_operand s i.o) i.o') (computed op range s) (computed op other s)
+      operands_alike parts (not (is_false know)) (λ i. operand_node s i.o) (λ i. operand_node (with_operand s i.o) i.o') (computed op range s)
+      (computed op other s)
 
   -- which premise is unmet does not hang on ranges
-  step_alike : (range other : Ranges) (flow : Flow) (rule : InstrRule) (p : PointId) → Alike (stepping know range flow rule p s) (stepping know other flow rule p s)
+  step_alike : (range other : Ranges) (flow : Flow) (rule : InstrRule) (p : PointId)
+      → Alike (stepping know range flow rule p s) (stepping know other flow rule p s)
   step_alike range other flow S5 p = computing_alike sum range other (add_of (code_at flow p))
   step_alike range other flow S6 p = computing_alike difference range other (sub_of (code_at flow p))
   step_alike range other flow S7 p = computing_alike product range other (mul_of (code_at flow p))
   step_alike range other flow S14 p =
-      operands_alike (test_le_of (code_at flow p)) (not (is_false know)) (λ i. operand_node s i.o) (λ i. operand_node (with_operand s i.o) i.o') (compared range s) (compared other s)
+      operands_alike (test_le_of (code_at flow p)) (not (is_false know)) (λ i. operand_node s i.o) (λ i. operand_node (with_operand s i.o) i.o')
+      (compared range s) (compared other s)
   step_alike range other flow rule p = alike_self (stepping know range flow rule p s)
 
   -- nor on the list that is written where a node is forgotten
@@ -141,7 +145,8 @@ module _ (flow : Flow) (defs : List Def) (g : Setting) (b : Path) where
   asked_at k (line.L11 node) = refl
   asked_at k l = refl
 
-  fixed_alike : (k other : Knowledge) (know : Test) (gap : Option Gap) (l : Line) → Alike (judged_line (fixed k know gap) flow defs g l b) (judged_line (fixed other know gap) flow defs g l b)
+  fixed_alike : (k other : Knowledge) (know : Test) (gap : Option Gap) (l : Line)
+      → Alike (judged_line (fixed k know gap) flow defs g l b) (judged_line (fixed other know gap) flow defs g l b)
   fixed_alike k other know gap (line.Step rule) =
       need_alike 1 (may_step g b) _ _
       (then_alike (map path_of) (stepping know k.range flow rule b.point b.state) (stepping know other.range flow rule b.point b.state)
@@ -152,15 +157,19 @@ module _ (flow : Flow) (defs : List Def) (g : Setting) (b : Path) where
       (forget_alike know b.state (k.left b.state node) (other.left b.state node) node))
   fixed_alike k other know gap l = alike_self (judged_line (fixed k know gap) flow defs g l b)
 
-  pub lines_agree : LinesAreJudged → (k other : Knowledge) → IsAsked k flow defs b → IsAsked other flow defs b → (l : Line) → judged_line k flow defs g l b ≡ judged_line other flow defs g l b
+  pub lines_agree : LinesAreJudged → (k other : Knowledge) → IsAsked k flow defs b → IsAsked other flow defs b → (l : Line)
+      → judged_line k flow defs g l b ≡ judged_line other flow defs g l b
   lines_agree judged k other asked asked' l =
-      one_judged (judged_line k flow defs g l b) (judged_line other flow defs g l b) _ (judged k flow defs g l b asked) (judged other flow defs g l b asked') alike
+      one_judged (judged_line k flow defs g l b) (judged_line other flow defs g l b) _ (judged k flow defs g l b asked)
+      (judged other flow defs g l b asked') alike
     where
       knows : k.know b.state ≡ other.know b.state
       knows = one_knows (k.know b.state) (other.know b.state) b.state asked.given.tells asked'.given.tells
 
       gaps : k.gap b.point b.state ≡ other.gap b.point b.state
-      gaps = one_option (k.gap b.point b.state) (other.gap b.point b.state) (λ gap e. (asked'.gap gap).1 ((asked.gap gap).0 e)) (λ gap e. (asked.gap gap).1 ((asked'.gap gap).0 e))
+      gaps =
+          one_option (k.gap b.point b.state) (other.gap b.point b.state) (λ gap e. (asked'.gap gap).1 ((asked.gap gap).0 e))
+          (λ gap e. (asked.gap gap).1 ((asked'.gap gap).0 e))
 
       there : judged_line (fixed other (k.know b.state) (k.gap b.point b.state)) flow defs g l b ≡ judged_line other flow defs g l b
       there =

@@ -25,7 +25,8 @@ use Rattle.mc_joins.specs.Parts.{Basis}
 use Rattle.mc_joins.specs.Steps.{after_step, after_steps, is_stuck}
 use Rattle.mc_joins.specs.Whole.{Joins}
 use Rattle.mc_joins.specs.Chains.Chains.{changes, over}
-use Rattle.mc_joins.specs.Chains.Judges.{Lore, Outcome, Reading, basis, begun_chain, gets_stuck, given_by, heading, is_passing, joining_state, may_change, may_head, opening_state, passing_line, reading_line, reading_rule, stands_behind, whole_join}
+use Rattle.mc_joins.specs.Chains.Judges.{Lore, Outcome, Reading, basis, begun_chain, gets_stuck, given_by, heading, is_passing, joining_state}
+use Rattle.mc_joins.specs.Chains.Judges.{may_change, may_head, opening_state, passing_line, reading_line, reading_rule, stands_behind, whole_join}
 use Rattle.mc_joins.specs.Chains.Laws.{IsRight, Made}
 use Rattle.mc_joins.specs.Chains.Opened.{with_state_for}
 use Rattle.mc_joins.specs.Chains.Read.{IsKept}
@@ -64,7 +65,8 @@ have_same n (Some w) None f h e same = absurd (cc e)
 and_same : (a b c d : Bool) → a ≡ b → c ≡ d → (a && c) ≡ (b && d)
 and_same a b c d e f = cc (e, f)
 
-module _ (steps : StepLaws) (laws : Laws) (k other : Lore) (flow : Flow) (defs : List Def) (right : IsRight k flow defs) (right' : IsRight other flow defs) where
+module _ (steps : StepLaws) (laws : Laws) (k other : Lore) (flow : Flow) (defs : List Def) (right : IsRight k flow defs)
+    (right' : IsRight other flow defs) where
   new : NewStatesAreMade k.lines.know flow defs
   new = new_states laws.anew_bounded laws.joins k.lines.know flow defs right.knows
 
@@ -75,14 +77,17 @@ module _ (steps : StepLaws) (laws : Laws) (k other : Lore) (flow : Flow) (defs :
   consistent_same s made = ap (λ (know : Test). not (is_false know)) (knows s made)
 
   tidy_same : (s : State) → Made flow defs s → k.tidy s ≡ other.tidy s
-  tidy_same s made = one_test (k.tidy s) (other.tidy s) (λ e. (right'.tidy s made).1 ((right.tidy s made).0 e)) (λ e. (right.tidy s made).1 ((right'.tidy s made).0 e))
+  tidy_same s made =
+      one_test (k.tidy s) (other.tidy s) (λ e. (right'.tidy s made).1 ((right.tidy s made).0 e)) (λ e. (right.tidy s made).1 ((right'.tidy s made).0 e))
 
   all_tidy : (states : List State) → AllByRecursion (Made flow defs) states → list_all k.tidy states ≡ list_all other.tidy states
   all_tidy [] made = refl
-  all_tidy (s ∷ states) made = and_same (k.tidy s) (other.tidy s) (list_all k.tidy states) (list_all other.tidy states) (tidy_same s made.0) (all_tidy states made.1)
+  all_tidy (s ∷ states) made =
+      and_same (k.tidy s) (other.tidy s) (list_all k.tidy states) (list_all other.tidy states) (tidy_same s made.0) (all_tidy states made.1)
 
   formed_same : (raw : RawState) → k.formed raw ≡ other.formed raw
-  formed_same raw = one_test (k.formed raw) (other.formed raw) (λ e. (right'.formed raw).1 ((right.formed raw).0 e)) (λ e. (right.formed raw).1 ((right'.formed raw).0 e))
+  formed_same raw =
+      one_test (k.formed raw) (other.formed raw) (λ e. (right'.formed raw).1 ((right.formed raw).0 e)) (λ e. (right.formed raw).1 ((right'.formed raw).0 e))
 
   -- ---- joins
 
@@ -92,8 +97,10 @@ module _ (steps : StepLaws) (laws : Laws) (k other : Lore) (flow : Flow) (defs :
   abbrev v : Basis
   v = basis other defs
 
-  prefix_same : (left right : State) (list : List JoinStep) → Made flow defs left → Made flow defs right → after_steps w (begun left right) list ≡ after_steps v (begun left right) list
-  prefix_same l r list l_made r_made = steps.prefixes defs flow.vars flow.structs.list k.lines.know other.lines.know l r list right.knows right'.knows l_made r_made
+  prefix_same : (left right : State) (list : List JoinStep) → Made flow defs left → Made flow defs right
+      → after_steps w (begun left right) list ≡ after_steps v (begun left right) list
+  prefix_same l r list l_made r_made =
+      steps.prefixes defs flow.vars flow.structs.list k.lines.know other.lines.know l r list right.knows right'.knows l_made r_made
 
   -- both states of a join stay well made
   abbrev BothMade : Joining → Type 0
@@ -101,10 +108,14 @@ module _ (steps : StepLaws) (laws : Laws) (k other : Lore) (flow : Flow) (defs :
 
   steps_made : (list : List JoinStep) (j last : Joining) → BothMade j → after_steps w j list ≡ Some last → BothMade last
   steps_made [] j last made e = let is : j ≡ last = cc e in subst BothMade is made
-  steps_made (step ∷ list) j last made e = steps_from (after_step w j step) list last (λ next is. steps.keep defs flow.vars flow.structs.list k.lines.know j step next right.knows made.0 made.1 is) (λ next both e'. steps_made list next last both e') e
+  steps_made (step ∷ list) j last made e =
+      steps_from (after_step w j step) list last
+      (λ next is. steps.keep defs flow.vars flow.structs.list k.lines.know j step next right.knows made.0 made.1 is)
+      (λ next both e'. steps_made list next last both e') e
     where
       steps_from : (o : Option Joining) (list : List JoinStep) (last : Joining) → ((next : Joining) → o ≡ Some next → BothMade next)
-          → ((next : Joining) → BothMade next → after_steps w next list ≡ Some last → BothMade last) → option_and_then (λ next. after_steps w next list) o ≡ Some last → BothMade last
+          → ((next : Joining) → BothMade next → after_steps w next list ≡ Some last → BothMade last)
+          → option_and_then (λ next. after_steps w next list) o ≡ Some last → BothMade last
       steps_from None list last one rest e = absurd (cc e)
       steps_from (Some next) list last one rest e = rest next (one next refl) e
 
@@ -123,9 +134,11 @@ module _ (steps : StepLaws) (laws : Laws) (k other : Lore) (flow : Flow) (defs :
       ∙ ap (λ (o : Option Joining). is_some (option_and_then (λ last. if is_stuck v last then Some last else None) o)) (prefix_same left own list l_made o_made)
     where
       at : (o : Option Joining) → after_steps w (begun left own) list ≡ o
-          → is_some (option_and_then (λ last. if is_stuck w last then Some last else None) o) ≡ is_some (option_and_then (λ last. if is_stuck v last then Some last else None) o)
+          → is_some (option_and_then (λ last. if is_stuck w last then Some last else None) o) ≡ is_some
+          (option_and_then (λ last. if is_stuck v last then Some last else None) o)
       at None is = refl
-      at (Some last) is = ap (λ (b : Bool). is_some (if b then Some last else None)) (stuck_same last (steps_made list (begun left own) last (l_made, o_made) is))
+      at (Some last) is =
+          ap (λ (b : Bool). is_some (if b then Some last else None)) (stuck_same last (steps_made list (begun left own) last (l_made, o_made) is))
 
   tries_same : (own : State) (lefts : List State) (tries : List (List JoinStep)) → Made flow defs own → AllByRecursion (Made flow defs) lefts
       → all_both (gets_stuck w own) lefts tries ≡ all_both (gets_stuck v own) lefts tries
@@ -141,7 +154,8 @@ module _ (steps : StepLaws) (laws : Laws) (k other : Lore) (flow : Flow) (defs :
       ap (option_and_then (λ (last : Joining). if is_none (next_pair last) then Some last else None)) (prefix_same left own list l_made o_made)
 
   -- a whole join of two tidy states gives one state
-  module _ (round : ℕ) (left own : State) (list : List JoinStep) (last : Joining) (l_made : Made flow defs left) (o_made : Made flow defs own) (l_tidy : IsTidy left) (o_tidy : IsTidy own)
+  module _ (round : ℕ) (left own : State) (list : List JoinStep) (last : Joining) (l_made : Made flow defs left) (o_made : Made flow defs own)
+      (l_tidy : IsTidy left) (o_tidy : IsTidy own)
       (whole : whole_join w left own list ≡ Some last) where
     ends : (after_steps w (begun left own) list ≡ Some last) × (next_pair last ≡ None)
     ends = whole_from w own left list last whole
@@ -152,7 +166,8 @@ module _ (steps : StepLaws) (laws : Laws) (k other : Lore) (flow : Flow) (defs :
       reached = ends.0;
       done = ends.1;
       gives = refl;
-      atoms = right.joint round left own list last (record { left_made = l_made; right_made = o_made; left_tidy = l_tidy; right_tidy = o_tidy; reached = ends.0; done = ends.1 });
+      atoms = right.joint round left own list last
+          (record { left_made = l_made; right_made = o_made; left_tidy = l_tidy; right_tidy = o_tidy; reached = ends.0; done = ends.1 });
     }
 
     other_join : Joins w round flow.thresholds left own list (given_by other round left own last)
@@ -162,7 +177,15 @@ module _ (steps : StepLaws) (laws : Laws) (k other : Lore) (flow : Flow) (defs :
       done = ends.1;
       gives = refl;
       atoms = right'.joint round left own list last
-          (record { left_made = l_made; right_made = o_made; left_tidy = l_tidy; right_tidy = o_tidy; reached = sym (prefix_same left own list l_made o_made) ∙ ends.0; done = ends.1 });
+          (record {
+            left_made = l_made;
+            right_made = o_made;
+            left_tidy = l_tidy;
+            right_tidy = o_tidy;
+            reached = sym (prefix_same left own list l_made o_made)
+                ∙ ends.0;
+            done = ends.1;
+          });
     }
 
     given_same : given_by k round left own last ≡ given_by other round left own last
@@ -174,7 +197,8 @@ module _ (steps : StepLaws) (laws : Laws) (k other : Lore) (flow : Flow) (defs :
     test_same : k.same (given_by k round left own last) left ≡ other.same (given_by other round left own last) left
     test_same =
         let t = given_by k round left own last in
-        one_test (k.same t left) (other.same t left) (λ e. (right'.same t left given_made l_made).1 ((right.same t left given_made l_made).0 e)) (λ e. (right.same t left given_made l_made).1 ((right'.same t left given_made l_made).0 e))
+        one_test (k.same t left) (other.same t left) (λ e. (right'.same t left given_made l_made).1 ((right.same t left given_made l_made).0 e))
+        (λ e. (right.same t left given_made l_made).1 ((right'.same t left given_made l_made).0 e))
         ∙ ap (λ (u : State). other.same u left) given_same
 
   -- ---- lines
@@ -189,8 +213,10 @@ module _ (steps : StepLaws) (laws : Laws) (k other : Lore) (flow : Flow) (defs :
         need_same 2 (not (is_false (k.lines.know b.state))) (not (is_false (other.lines.know b.state))) _ _ (consistent_same b.state made) (λ e2.
         need_same 3 (length tries == length lefts) (length tries == length lefts) _ _ refl (λ e3.
         need_same 4 (k.tidy b.state && list_all k.tidy lefts) (other.tidy b.state && list_all other.tidy lefts) _ _
-        (and_same (k.tidy b.state) (other.tidy b.state) (list_all k.tidy lefts) (list_all other.tidy lefts) (tidy_same b.state made) (all_tidy lefts lefts_made)) (λ e4.
-        need_same 5 (all_both (gets_stuck w b.state) lefts tries) (all_both (gets_stuck v b.state) lefts tries) _ _ (tries_same b.state lefts tries made lefts_made) (λ e5. refl)))))
+        (and_same (k.tidy b.state) (other.tidy b.state) (list_all k.tidy lefts) (list_all other.tidy lefts) (tidy_same b.state made)
+        (all_tidy lefts lefts_made)) (λ e4.
+        need_same 5 (all_both (gets_stuck w b.state) lefts tries) (all_both (gets_stuck v b.state) lefts tries) _ _
+        (tries_same b.state lefts tries made lefts_made) (λ e5. refl)))))
 
     joining_same : (j : ℕ) (list : List JoinStep) → joining_state k defs round g j list b ≡ joining_state other defs round g j list b
     joining_same j list =
@@ -206,7 +232,8 @@ module _ (steps : StepLaws) (laws : Laws) (k other : Lore) (flow : Flow) (defs :
         have_same 5 (whole_join w left b.state list) (whole_join v left b.state list) _ _ (whole_same left b.state list l_made made) (λ last whole.
         need_same 6 (not (k.same (given_by k round left b.state last) left)) (not (other.same (given_by other round left b.state last) left)) _ _
         (ap not (test_same round left b.state list last l_made made l_tidy o_tidy whole)) (λ e6.
-        ap (λ (r : State). let heads : Judged (List Head) = Ok (with_state_for b.point j r g.heads) in heads) (given_same round left b.state list last l_made made l_tidy o_tidy whole)))))))
+        ap (λ (r : State). let heads : Judged (List Head) = Ok (with_state_for b.point j r g.heads) in heads)
+        (given_same round left b.state list last l_made made l_tidy o_tidy whole)))))))
 
     pass_line_same : (l : Line) → passing_line k flow defs round g l b ≡ passing_line other flow defs round g l b
     pass_line_same (line.C2 tries) = ap (then_give (λ (heads : List Head). let o : Outcome = record { next = []; heads = heads } in o)) (opening_same tries)
@@ -220,14 +247,17 @@ module _ (steps : StepLaws) (laws : Laws) (k other : Lore) (flow : Flow) (defs :
       need_same 1 (is_passing r.stage) (is_passing r.stage) _ _ refl (λ e.
       have_same 1 (first_branch r.branches) (first_branch r.branches) _ _ refl (λ b first.
       let made = (subst (AllByRecursion (IsMade flow defs)) (first_is r.branches b first) kept.branches).0 in
-      ap (then_give (λ (out : Outcome). let next : Reading = record r { heads = out.heads; branches = out.next ++ b.1; stuck = r.stuck ++ marked l b.0; changed = r.changed || changes l } in next))
+      ap (then_give (λ (out : Outcome). let next : Reading = record r
+      { heads = out.heads; branches = out.next ++ b.1; stuck = r.stuck ++ marked l b.0; changed = r.changed || changes l } in next))
       (pass_line_same r.round (over r.cuts r.heads) b.0 made (states_good laws k flow defs right r.cuts b.0.point r.heads kept.heads) l)))
 
   line_same : (l : Line) (r : Reading) → IsKept flow defs r → reading_line k flow defs l r ≡ reading_line other flow defs l r
   line_same (line.Header version form) r kept = refl
   line_same (line.Cut p) r kept = refl
   line_same (line.Head p raw) r kept =
-      ap (λ (b : Bool). need 1 (may_head flow r r.stage) (need 3 (is_cut r.cuts p && stands_behind r.heads p) (need 4 b (Ok (record r { stage = heading; heads = r.heads ++ (p, state_of raw) ∷ [] }))))) (formed_same raw)
+      ap (λ (b : Bool). need 1 (may_head flow r r.stage)
+      (need 3 (is_cut r.cuts p && stands_behind r.heads p) (need 4 b (Ok (record r { stage = heading; heads = r.heads ++ (p, state_of raw) ∷ [] })))))
+      (formed_same raw)
   line_same line.Pass r kept = refl
   line_same line.End r kept = refl
   line_same l r kept = rule_same l r kept

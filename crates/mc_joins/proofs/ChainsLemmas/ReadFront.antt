@@ -57,7 +57,8 @@ skip_from : (o : Option Instr) → is_skip o ≡ true → (q : PointId) × (o �
 skip_from (Some (instr.Skip q)) e = (q, refl)
 skip_from other e = absurd (cc e)
 
-module _ (k : Lore) (flow : Flow) (defs : List Def) (formed : (raw : RawState) → (k.formed raw ≡ true) ↔ IsWellFormedRaw defs flow.vars flow.structs.list raw) where
+module _ (k : Lore) (flow : Flow) (defs : List Def)
+    (formed : (raw : RawState) → (k.formed raw ≡ true) ↔ IsWellFormedRaw defs flow.vars flow.structs.list raw) where
   abbrev lines_at : ℕ → List Line → Reading → Result Reading (ℕ × ℕ)
   lines_at = reading_lines k flow defs
 
@@ -71,7 +72,8 @@ module _ (k : Lore) (flow : Flow) (defs : List Def) (formed : (raw : RawState) �
       let skip = skip_from (code_at flow p) three.0 in
       (record { next = skip.0; skips = skip.1 }, four.0, cc four.1)
 
-  cut_yes : (cuts : List PointId) (p : PointId) → IsPoint flow p → comes_after cuts p ≡ true → reading_cut flow p (cutting_at cuts) ≡ Ok (cutting_at (cuts ++ p ∷ []))
+  cut_yes : (cuts : List PointId) (p : PointId) → IsPoint flow p → comes_after cuts p ≡ true
+      → reading_cut flow p (cutting_at cuts) ≡ Ok (cutting_at (cuts ++ p ∷ []))
   cut_yes cuts p is after = need_yes 3 (is_skip (code_at flow p)) _ (ap is_skip is.skips) ∙ need_yes 4 (comes_after cuts p) _ after
 
   -- a head at a cut with a well-formed state
@@ -118,7 +120,8 @@ module _ (k : Lore) (flow : Flow) (defs : List Def) (formed : (raw : RawState) �
     pub number : ℕ
     pub read : lines_at number rest (opened_at flow cuts all) ≡ Ok last
 
-  first_pass : (cuts : List PointId) (n : ℕ) (lines : List Line) (written : List WrittenHead) (last : Reading) → AreOrdered written → AllByRecursion (HeadFits cuts) written
+  first_pass : (cuts : List PointId) (n : ℕ) (lines : List Line) (written : List WrittenHead) (last : Reading) → AreOrdered written
+      → AllByRecursion (HeadFits cuts) written
       → lines_at n lines (opened_at flow cuts written) ≡ Ok last → HeadsOf cuts (line.Pass ∷ lines) written last
   first_pass cuts n lines written last ordered fit e = record {
     more = [];
@@ -151,11 +154,14 @@ module _ (k : Lore) (flow : Flow) (defs : List Def) (formed : (raw : RawState) �
   FromHeads cuts n lines = (written : List WrittenHead) (last : Reading) → AreOrdered written → AllByRecursion (HeadFits cuts) written
       → lines_at n lines (heading_at cuts written) ≡ Ok last → last.stage ≡ finished → HeadsOf cuts lines written last
 
-  one_head : (cuts : List PointId) (n : ℕ) (h : WrittenHead) (lines : List Line) → FromHeads cuts (suc n) lines → (written : List WrittenHead) (last r : Reading) → AreOrdered written
-      → AllByRecursion (HeadFits cuts) written → head_read cuts written h ≡ Ok r → lines_at (suc n) lines r ≡ Ok last → last.stage ≡ finished → HeadsOf cuts (head_line h ∷ lines) written last
+  one_head : (cuts : List PointId) (n : ℕ) (h : WrittenHead) (lines : List Line) → FromHeads cuts (suc n) lines
+      → (written : List WrittenHead) (last r : Reading) → AreOrdered written
+      → AllByRecursion (HeadFits cuts) written → head_read cuts written h ≡ Ok r → lines_at (suc n) lines r ≡ Ok last → last.stage ≡ finished
+      → HeadsOf cuts (head_line h ∷ lines) written last
   one_head cuts n h lines rest written last r ordered fit given e f =
       let ok = head_ok cuts written h r given in
-      let on : lines_at (suc n) lines (heading_at cuts (written ++ h ∷ [])) ≡ Ok last = subst (λ (r : Reading). lines_at (suc n) lines r ≡ Ok last) (sym ok.2) e in
+      let on : lines_at (suc n) lines (heading_at cuts (written ++ h ∷ [])) ≡ Ok last = subst (λ (r : Reading). lines_at (suc n) lines r ≡ Ok last)
+      (sym ok.2) e in
       then_head cuts h lines written last (rest (written ++ h ∷ []) last (ordered_end written h ordered ok.1) (all_end (HeadFits cuts) written h fit ok.0) on f)
 
   heads_from : (cuts : List PointId) (n : ℕ) (lines : List Line) → FromHeads cuts n lines
@@ -196,7 +202,8 @@ module _ (k : Lore) (flow : Flow) (defs : List Def) (formed : (raw : RawState) �
     heads = heads;
   }
 
-  then_cut : (p : PointId) (lines : List Line) (cuts : List PointId) (last : Reading) → FrontOf lines (cuts ++ p ∷ []) last → FrontOf (line.Cut p ∷ lines) cuts last
+  then_cut : (p : PointId) (lines : List Line) (cuts : List PointId) (last : Reading) → FrontOf lines (cuts ++ p ∷ []) last
+      → FrontOf (line.Cut p ∷ lines) cuts last
   then_cut p lines cuts last c = record {
     more = p ∷ c.more;
     rest = c.rest;
@@ -217,11 +224,13 @@ module _ (k : Lore) (flow : Flow) (defs : List Def) (formed : (raw : RawState) �
       let read = behind_ok n (reading_cut flow p (cutting_at cuts)) (lines_at (suc n) lines) last e in
       let ok = cut_ok cuts p read.0 read.1 in
       let on : lines_at (suc n) lines (cutting_at (cuts ++ p ∷ [])) ≡ Ok last = subst (λ (r : Reading). lines_at (suc n) lines r ≡ Ok last) (sym ok.2) read.2 in
-      then_cut p lines cuts last (front_from (suc n) lines (cuts ++ p ∷ []) last (ascend_end cuts p ascend ok.1) (all_end (IsPoint flow) cuts p skips ok.0) on f)
+      then_cut p lines cuts last (front_from (suc n) lines (cuts ++ p ∷ []) last (ascend_end cuts p ascend ok.1)
+      (all_end (IsPoint flow) cuts p skips ok.0) on f)
   front_from n (line.Head p raw ∷ lines) cuts last ascend skips e f =
       let read = behind_ok n (reading_head k flow p raw (cutting_at cuts)) (lines_at (suc n) lines) last e in
       let full = need_ok 1 (has_all_heads flow cuts) (head_read cuts [] (p, raw)) read.0 read.1 in
-      no_cuts (line.Head p raw ∷ lines) cuts last ascend skips full.0 (one_head cuts n (p, raw) lines (heads_from cuts (suc n) lines) [] last read.0 tt tt full.1 read.2 f)
+      no_cuts (line.Head p raw ∷ lines) cuts last ascend skips full.0
+      (one_head cuts n (p, raw) lines (heads_from cuts (suc n) lines) [] last read.0 tt tt full.1 read.2 f)
   front_from n (line.Pass ∷ lines) cuts last ascend skips e f =
       let read = behind_ok n (reading_pass flow (cutting_at cuts)) (lines_at (suc n) lines) last e in
       let full = need_ok 1 (has_all_heads flow cuts) (Ok (opened_at flow cuts [])) read.0 read.1 in
@@ -249,9 +258,11 @@ module _ (k : Lore) (flow : Flow) (defs : List Def) (formed : (raw : RawState) �
             ∙ ap (λ (cs : List PointId). lines_at on.0 rest (cutting_at cs)) (append_end cuts p more),
       )
 
-  heads_to : (cuts : List PointId) (n : ℕ) (written more : List WrittenHead) (rest : List Line) → AreOrdered (written ++ more) → AllByRecursion (HeadFits cuts) more
+  heads_to : (cuts : List PointId) (n : ℕ) (written more : List WrittenHead) (rest : List Line) → AreOrdered (written ++ more)
+      → AllByRecursion (HeadFits cuts) more
       → (m : ℕ) × (lines_at n (map head_line more ++ (line.Pass ∷ rest)) (heading_at cuts written) ≡ lines_at m rest (opened_at flow cuts (written ++ more)))
-  heads_to cuts n written [] rest ordered fit = (suc n, ap (λ (hs : List WrittenHead). lines_at (suc n) rest (opened_at flow cuts hs)) (sym (append_none written)))
+  heads_to cuts n written [] rest ordered fit =
+      (suc n, ap (λ (hs : List WrittenHead). lines_at (suc n) rest (opened_at flow cuts hs)) (sym (append_none written)))
   heads_to cuts n written (h ∷ more) rest ordered fit =
       let yes = head_yes cuts written h fit.0 (ordered_after written h more ordered) in
       let on = heads_to cuts (suc n) (written ++ h ∷ []) more rest (subst AreOrdered (sym (append_end written h more)) ordered) fit.1 in (
@@ -265,12 +276,15 @@ module _ (k : Lore) (flow : Flow) (defs : List Def) (formed : (raw : RawState) �
   past_cuts : (cuts : List PointId) (n : ℕ) (heads : List WrittenHead) (rest : List Line) → has_all_heads flow cuts ≡ true
       → lines_at n (map head_line heads ++ (line.Pass ∷ rest)) (cutting_at cuts) ≡ lines_at n (map head_line heads ++ (line.Pass ∷ rest)) (heading_at cuts [])
   past_cuts cuts n [] rest full =
-      behind_yes n (reading_pass flow (cutting_at cuts)) (lines_at (suc n) rest) (opened_at flow cuts []) (need_yes 1 (has_all_heads flow cuts) (Ok (opened_at flow cuts [])) full)
+      behind_yes n (reading_pass flow (cutting_at cuts)) (lines_at (suc n) rest) (opened_at flow cuts [])
+      (need_yes 1 (has_all_heads flow cuts) (Ok (opened_at flow cuts [])) full)
   past_cuts cuts n (h ∷ heads) rest full =
-      ap (λ (j : Judged Reading). behind n j (lines_at (suc n) (map head_line heads ++ (line.Pass ∷ rest)))) (need_yes 1 (has_all_heads flow cuts) (head_read cuts [] h) full)
+      ap (λ (j : Judged Reading). behind n j (lines_at (suc n) (map head_line heads ++ (line.Pass ∷ rest))))
+      (need_yes 1 (has_all_heads flow cuts) (head_read cuts [] h) full)
 
   -- cuts and heads are read, up to the lines of the first pass
-  pub front_to : (cuts : List PointId) (heads : List WrittenHead) (rest : List Line) → Ascend cuts → AllByRecursion (IsPoint flow) cuts → has_all_heads flow cuts ≡ true
+  pub front_to : (cuts : List PointId) (heads : List WrittenHead) (rest : List Line) → Ascend cuts → AllByRecursion (IsPoint flow) cuts
+      → has_all_heads flow cuts ≡ true
       → AreOrdered heads → AreHeads flow defs cuts heads
       → (m : ℕ) × (lines_at 2 (map line.Cut cuts ++ (map head_line heads ++ (line.Pass ∷ rest))) (cutting_at []) ≡ lines_at m rest (opened_at flow cuts heads))
   front_to cuts heads rest ascend skips full ordered fit =

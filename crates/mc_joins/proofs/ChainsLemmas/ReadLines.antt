@@ -26,7 +26,8 @@ use Rattle.mc_kernel.proofs.ReadingLemmas.Lists.{all_end, all_join, cut_from}
 use Rattle.mc_joins.specs.Laws.{JoinsMakeWell}
 use Rattle.mc_joins.specs.Same.Laws.{AnewIsBounded}
 use Rattle.mc_joins.specs.Chains.Chains.{IsPassLine, changes, over}
-use Rattle.mc_joins.specs.Chains.Judges.{Lore, Outcome, Reading, Stage, basis, cutting, finished, heading, passing, is_cutting, is_passing, joining_state, may_head, may_pass, opening_state, passing_line, reading_line, reading_rule, stands_behind}
+use Rattle.mc_joins.specs.Chains.Judges.{Lore, Outcome, Reading, Stage, basis, cutting, finished, heading, passing, is_cutting, is_passing}
+use Rattle.mc_joins.specs.Chains.Judges.{joining_state, may_head, may_pass, opening_state, passing_line, reading_line, reading_rule, stands_behind}
 use Rattle.mc_joins.specs.Chains.Laws.{IsRight, JoiningIsJudged, Made, OpeningIsJudged}
 use Rattle.mc_joins.specs.Chains.Opened.{JoinsState, OpensState}
 use Rattle.mc_joins.specs.Chains.Read.{IsKept, IsReadAt}
@@ -56,13 +57,15 @@ module _ (laws : Laws) (k : Lore) (flow : Flow) (defs : List Def) (right : IsRig
   abbrev ending : List Head → Outcome
   ending heads = record { next = []; heads = heads }
 
-  plain_from : (l : Line) (out : Outcome) → then_give same_heads (judged_line k.lines flow defs g l b) ≡ Ok out → IsInstance flow defs g l b out.next × (out.heads ≡ g.heads)
+  plain_from : (l : Line) (out : Outcome) → then_give same_heads (judged_line k.lines flow defs g l b) ≡ Ok out → IsInstance flow defs g l b out.next
+      × (out.heads ≡ g.heads)
   plain_from l out e =
       let given = then_ok same_heads (judged_line k.lines flow defs g l b) out e in
       let i : IsInstance flow defs g l b given.0 = (laws.judged k.lines flow defs g l b (right.asked b made) given.0).0 given.1 in
       subst (λ (o : Outcome). IsInstance flow defs g l b o.next × (o.heads ≡ g.heads)) (sym given.2) (i, refl)
 
-  plain_to : (l : Line) (out : Outcome) → IsInstance flow defs g l b out.next × (out.heads ≡ g.heads) → then_give same_heads (judged_line k.lines flow defs g l b) ≡ Ok out
+  plain_to : (l : Line) (out : Outcome) → IsInstance flow defs g l b out.next × (out.heads ≡ g.heads)
+      → then_give same_heads (judged_line k.lines flow defs g l b) ≡ Ok out
   plain_to l out i =
       ap (then_give same_heads) ((laws.judged k.lines flow defs g l b (right.asked b made) out.next).1 i.0)
       ∙ ap (λ (heads : List Head). let o : Outcome = record { next = out.next; heads = heads } in let j : Judged Outcome = Ok o in j) (sym i.1)
@@ -84,10 +87,12 @@ module _ (laws : Laws) (k : Lore) (flow : Flow) (defs : List Def) (right : IsRig
 
   pub line_to : (l : Line) (out : Outcome) → IsPassLine flow (basis k defs) round g l b out.next out.heads → passing_line k flow defs round g l b ≡ Ok out
   line_to (line.C2 tries) out i =
-      let there : OpensState (basis k defs) g tries b [] out.heads = subst (λ (next : List Path). OpensState (basis k defs) g tries b next out.heads) i.ends i in
+      let there : OpensState (basis k defs) g tries b [] out.heads = subst
+      (λ (next : List Path). OpensState (basis k defs) g tries b next out.heads) i.ends i in
       ap (then_give ending) ((laws.opening k flow defs g tries b right made lefts_made out.heads).1 there) ∙ ended_out out i.ends
   line_to (line.C3 j steps) out i =
-      let there : JoinsState (basis k defs) round flow.thresholds g j steps b [] out.heads = subst (λ (next : List Path). JoinsState (basis k defs) round flow.thresholds g j steps b next out.heads) i.ends i in
+      let there : JoinsState (basis k defs) round flow.thresholds g j steps b [] out.heads = subst
+      (λ (next : List Path). JoinsState (basis k defs) round flow.thresholds g j steps b next out.heads) i.ends i in
       ap (then_give ending) ((laws.joining k flow defs round g j steps b right made lefts_made out.heads).1 there) ∙ ended_out out i.ends
   line_to l out i = plain_to l out i
 
@@ -113,7 +118,8 @@ module _ (p : PointId) where
       let below = rest.1 in
       (suc rest.0, omega arith, rest.2)
 
-  more_cuts : (flow : Flow) (defs : List Def) (cuts : List PointId) (heads : List Head) → AllByRecursion (λ (h : Head). Contains cuts h.0 × Made flow defs h.1) heads
+  more_cuts : (flow : Flow) (defs : List Def) (cuts : List PointId) (heads : List Head)
+      → AllByRecursion (λ (h : Head). Contains cuts h.0 × Made flow defs h.1) heads
       → AllByRecursion (λ (h : Head). Contains (cuts ++ p ∷ []) h.0 × Made flow defs h.1) heads
   more_cuts flow defs cuts [] a = tt
   more_cuts flow defs cuts (h ∷ heads) a = ((contains_more h.0 cuts a.0.0, a.0.1), more_cuts flow defs cuts heads a.1)
@@ -122,7 +128,8 @@ module _ (laws : Laws) (k : Lore) (flow : Flow) (defs : List Def) (right : IsRig
   abbrev Good : List PointId → Head → Type 0
   Good cuts h = Contains cuts h.0 × Made flow defs h.1
 
-  pub states_good : (cuts : List PointId) (p : PointId) (heads : List Head) → AllByRecursion (Good cuts) heads → AllByRecursion (Made flow defs) (states_at p heads)
+  pub states_good : (cuts : List PointId) (p : PointId) (heads : List Head) → AllByRecursion (Good cuts) heads
+      → AllByRecursion (Made flow defs) (states_at p heads)
   states_good cuts p heads good = all_at (Made flow defs) p heads (only heads good)
     where
       only : (heads : List Head) → AllByRecursion (Good cuts) heads → AllByRecursion (λ (h : Head). Made flow defs h.1) heads
@@ -150,14 +157,16 @@ module _ (laws : Laws) (k : Lore) (flow : Flow) (defs : List Def) (right : IsRig
           open_are = open_are;
           next = given.0.next;
           heads = given.0.heads;
-          instance = line_from laws k flow defs right r.round (over r.cuts r.heads) b.0 (first_made b.0 b.1 open_are) (states_good r.cuts b.0.point r.heads kept.heads) l given.0 given.1;
+          instance = line_from laws k flow defs right r.round (over r.cuts r.heads) b.0 (first_made b.0 b.1 open_are)
+              (states_good r.cuts b.0.point r.heads kept.heads) l given.0 given.1;
           gives = given.2;
         }
 
     pub rule_to : IsReadAt flow (basis k defs) l r new → reading_rule k flow defs l r ≡ Ok new
     rule_to i =
         let out : Outcome = record { next = i.next; heads = i.heads } in
-        let judged = line_to laws k flow defs right r.round (over r.cuts r.heads) i.first (first_made i.first i.others i.open_are) (states_good r.cuts i.first.point r.heads kept.heads) l out i.instance in
+        let judged = line_to laws k flow defs right r.round (over r.cuts r.heads) i.first (first_made i.first i.others i.open_are)
+        (states_good r.cuts i.first.point r.heads kept.heads) l out i.instance in
         need_yes 1 (is_passing r.stage) _ (ap is_passing i.in_pass)
         ∙ have_yes 1 (first_branch r.branches) _ (i.first, i.others) (ap first_branch i.open_are)
         ∙ ap (then_give (come (i.first, i.others))) judged
@@ -170,7 +179,8 @@ module _ (laws : Laws) (k : Lore) (flow : Flow) (defs : List Def) (right : IsRig
     read_kept : (l : Line) (r next : Reading) → IsKept flow defs r → IsReadAt flow (basis k defs) l r next → IsKept flow defs next
     read_kept l r next kept i =
         let made = subst (AllByRecursion (IsMade flow defs)) i.open_are kept.branches in
-        let keeps = line_keeps laws.made laws.unknown flow defs valid k.lines.know new r.cuts r.round r.heads i.heads l i.first i.next kept.heads made.0 i.instance in
+        let keeps = line_keeps laws.made laws.unknown flow defs valid k.lines.know new r.cuts r.round r.heads i.heads l i.first i.next kept.heads made.0
+        i.instance in
         subst (IsKept flow defs) (sym i.gives) (record { heads = keeps.1; branches = all_join (IsMade flow defs) i.next i.others keeps.0 made.1 })
 
     pub line_kept : (l : Line) (r next : Reading) → IsKept flow defs r → reading_line k flow defs l r ≡ Ok next → IsKept flow defs next
@@ -193,7 +203,11 @@ module _ (laws : Laws) (k : Lore) (flow : Flow) (defs : List Def) (right : IsRig
         let one = need_ok 1 (may_pass flow r r.stage) _ next e in
         let three = need_ok 3 (has_no_branch r.branches && (not (is_passing r.stage) || r.changed)) _ next one.1 in
         let is : record r { stage = passing; round = suc r.round; branches = roots flow r.heads; stuck = []; changed = false } ≡ next = cc three.1 in
-        subst (IsKept flow defs) is (record { heads = kept.heads; branches = roots_made laws.made laws.unknown flow defs valid k.lines.know new r.cuts r.heads kept.heads })
+        subst (IsKept flow defs) is (record {
+          heads = kept.heads;
+          branches = roots_made laws.made laws.unknown flow defs valid k.lines.know new r.cuts r.heads
+              kept.heads;
+        })
     line_kept line.End r next kept e =
         let one = need_ok 1 (is_passing r.stage) _ next e in
         let three = need_ok 3 (has_no_branch r.branches) _ next one.1 in

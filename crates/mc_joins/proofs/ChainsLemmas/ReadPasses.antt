@@ -74,7 +74,8 @@ module _ (laws : Laws) (k : Lore) (flow : Flow) (defs : List Def) (right : IsRig
   After [] mid round stuck changed last = last ≡ ended_at cuts mid round stuck changed
   After (rules ∷ passes) mid round stuck changed last = (changed ≡ true) × PassesOf round (rules ∷ passes) mid last
 
-  after_same : (passes : List (List Line)) (mid : List Head) (round : ℕ) (stuck own : List Path) (changed other : Bool) (last : Reading) → stuck ≡ own → changed ≡ other
+  after_same : (passes : List (List Line)) (mid : List Head) (round : ℕ) (stuck own : List Path) (changed other : Bool) (last : Reading) → stuck ≡ own
+      → changed ≡ other
       → After passes mid round stuck changed last → After passes mid round own other last
   after_same passes mid round stuck own changed other last e f a =
       subst (λ (b : Bool). After passes mid round own b last) f (subst (λ (ps : List Path). After passes mid round ps changed last) e a)
@@ -113,7 +114,8 @@ module _ (laws : Laws) (k : Lore) (flow : Flow) (defs : List Def) (right : IsRig
   -- what is read from within a pass on
   abbrev From : ℕ → List Line → Type 0
   From n lines = (heads : List Head) (round : ℕ) (bs stuck : List Path) (changed : Bool) (last : Reading)
-      → IsKept flow defs (passing_at cuts heads round bs stuck changed) → lines_at n lines (passing_at cuts heads round bs stuck changed) ≡ Ok last → last.stage ≡ finished
+      → IsKept flow defs (passing_at cuts heads round bs stuck changed) → lines_at n lines (passing_at cuts heads round bs stuck changed) ≡ Ok last
+      → last.stage ≡ finished
       → RestOf lines heads round bs stuck changed last
 
   -- a chain that has ended goes on by no line
@@ -130,9 +132,11 @@ module _ (laws : Laws) (k : Lore) (flow : Flow) (defs : List Def) (right : IsRig
       at line.End e = cc e
       at l e = cc e
 
-  rule_rest : (n : ℕ) (l : Line) (lines : List Line) → From (suc n) lines → (heads : List Head) (round : ℕ) (bs stuck : List Path) (changed : Bool) (last : Reading)
+  rule_rest : (n : ℕ) (l : Line) (lines : List Line) → From (suc n) lines
+      → (heads : List Head) (round : ℕ) (bs stuck : List Path) (changed : Bool) (last : Reading)
       → IsKept flow defs (passing_at cuts heads round bs stuck changed)
-      → (next : Reading) → reading_line k flow defs l (passing_at cuts heads round bs stuck changed) ≡ Ok next → IsReadAt flow w l (passing_at cuts heads round bs stuck changed) next
+      → (next : Reading) → reading_line k flow defs l (passing_at cuts heads round bs stuck changed) ≡ Ok next
+      → IsReadAt flow w l (passing_at cuts heads round bs stuck changed) next
       → lines_at (suc n) lines next ≡ Ok last → last.stage ≡ finished → RestOf (l ∷ lines) heads round bs stuck changed last
   rule_rest n l lines rest heads round bs stuck changed last kept next read i e f =
       let there : Reading = passing_at cuts i.heads round (i.next ++ i.others) (stuck ++ marked l i.first) (changed || changes l) in
@@ -146,21 +150,26 @@ module _ (laws : Laws) (k : Lore) (flow : Flow) (defs : List Def) (right : IsRig
         own = own;
         mid = r.mid;
         spelled = ap (λ (ls : List Line). l ∷ ls) r.spelled;
-        reads = subst (λ (ps : List Path). ReadsPass flow w round cuts (l ∷ r.rules) ps own heads r.mid) (sym i.open_are) (i.next, i.heads, r.own, i.instance, r.reads, refl);
+        reads = subst (λ (ps : List Path). ReadsPass flow w round cuts (l ∷ r.rules) ps own heads r.mid) (sym i.open_are)
+            (i.next, i.heads, r.own, i.instance, r.reads, refl);
         after =
-            after_same r.passes r.mid round ((stuck ++ marked l i.first) ++ r.own) (stuck ++ own) ((changed || changes l) || changes_some r.rules) (changed || (changes l || changes_some r.rules)) last
+            after_same r.passes r.mid round ((stuck ++ marked l i.first) ++ r.own) (stuck ++ own) ((changed || changes l) || changes_some r.rules)
+            (changed || (changes l || changes_some r.rules)) last
             (append_twice stuck (marked l i.first) r.own ∙ ap (λ (ps : List Path). stuck ++ ps) (sym (stuck_marked l i.first r.own)))
             (or_twice changed (changes l) (changes_some r.rules)) r.after;
       }
 
-  rule_line : (n : ℕ) (l : Line) (lines : List Line) → From (suc n) lines → (heads : List Head) (round : ℕ) (bs stuck : List Path) (changed : Bool) (last : Reading)
+  rule_line : (n : ℕ) (l : Line) (lines : List Line) → From (suc n) lines
+      → (heads : List Head) (round : ℕ) (bs stuck : List Path) (changed : Bool) (last : Reading)
       → IsKept flow defs (passing_at cuts heads round bs stuck changed)
       → reading_line k flow defs l (passing_at cuts heads round bs stuck changed) ≡ reading_rule k flow defs l (passing_at cuts heads round bs stuck changed)
-      → lines_at n (l ∷ lines) (passing_at cuts heads round bs stuck changed) ≡ Ok last → last.stage ≡ finished → RestOf (l ∷ lines) heads round bs stuck changed last
+      → lines_at n (l ∷ lines) (passing_at cuts heads round bs stuck changed) ≡ Ok last → last.stage ≡ finished
+      → RestOf (l ∷ lines) heads round bs stuck changed last
   rule_line n l lines rest heads round bs stuck changed last kept rule e f =
       let r = passing_at cuts heads round bs stuck changed in
       let read = behind_ok n (reading_line k flow defs l r) (lines_at (suc n) lines) last e in
-      rule_rest n l lines rest heads round bs stuck changed last kept read.0 read.1 (rule_from laws k flow defs right l r read.0 kept (sym rule ∙ read.1)) read.2 f
+      rule_rest n l lines rest heads round bs stuck changed last kept read.0 read.1
+      (rule_from laws k flow defs right l r read.0 kept (sym rule ∙ read.1)) read.2 f
 
   end_rest : (n : ℕ) (lines : List Line) (heads : List Head) (round : ℕ) (bs stuck : List Path) (changed : Bool) (last : Reading)
       → lines_at n (line.End ∷ lines) (passing_at cuts heads round bs stuck changed) ≡ Ok last → RestOf (line.End ∷ lines) heads round bs stuck changed last
@@ -179,7 +188,8 @@ module _ (laws : Laws) (k : Lore) (flow : Flow) (defs : List Def) (right : IsRig
 
   pass_rest : (n : ℕ) (lines : List Line) → From (suc n) lines → (heads : List Head) (round : ℕ) (bs stuck : List Path) (changed : Bool) (last : Reading)
       → IsKept flow defs (passing_at cuts heads round bs stuck changed)
-      → lines_at n (line.Pass ∷ lines) (passing_at cuts heads round bs stuck changed) ≡ Ok last → last.stage ≡ finished → RestOf (line.Pass ∷ lines) heads round bs stuck changed last
+      → lines_at n (line.Pass ∷ lines) (passing_at cuts heads round bs stuck changed) ≡ Ok last → last.stage ≡ finished
+      → RestOf (line.Pass ∷ lines) heads round bs stuck changed last
   pass_rest n lines rest heads round (b ∷ bs) stuck changed last kept e f = absurd (cc e)
   pass_rest n lines rest heads round [] stuck false last kept e f = absurd (cc e)
   pass_rest n lines rest heads round [] stuck true last kept e f =
@@ -196,32 +206,40 @@ module _ (laws : Laws) (k : Lore) (flow : Flow) (defs : List Def) (right : IsRig
 
   pub rest_from : (n : ℕ) (lines : List Line) → From n lines
   rest_from n [] heads round bs stuck changed last kept e f =
-      let stage : passing ≡ finished = ap (λ (r : Reading). r.stage) (same_reading (passing_at cuts heads round bs stuck changed) last e) ∙ f in absurd (cc stage)
+      let stage : passing ≡ finished = ap (λ (r : Reading). r.stage) (same_reading (passing_at cuts heads round bs stuck changed) last e)
+      ∙ f in absurd (cc stage)
   rest_from n (line.Header version form ∷ lines) heads round bs stuck changed last kept e f = absurd (cc e)
   rest_from n (line.Cut p ∷ lines) heads round bs stuck changed last kept e f = absurd (cc e)
   rest_from n (line.Head p raw ∷ lines) heads round bs stuck changed last kept e f = absurd (cc e)
-  rest_from n (line.Pass ∷ lines) heads round bs stuck changed last kept e f = pass_rest n lines (rest_from (suc n) lines) heads round bs stuck changed last kept e f
+  rest_from n (line.Pass ∷ lines) heads round bs stuck changed last kept e f =
+      pass_rest n lines (rest_from (suc n) lines) heads round bs stuck changed last kept e f
   rest_from n (line.End ∷ lines) heads round bs stuck changed last kept e f = end_rest n lines heads round bs stuck changed last e
-  rest_from n (l ∷ lines) heads round bs stuck changed last kept e f = rule_line n l lines (rest_from (suc n) lines) heads round bs stuck changed last kept refl e f
+  rest_from n (l ∷ lines) heads round bs stuck changed last kept e f =
+      rule_line n l lines (rest_from (suc n) lines) heads round bs stuck changed last kept refl e f
 
   -- ---- and back
 
-  same_passing : (heads mid : List Head) (round : ℕ) (bs cs stuck own : List Path) (changed other : Bool) → heads ≡ mid → bs ≡ cs → stuck ≡ own → changed ≡ other
+  same_passing : (heads mid : List Head) (round : ℕ) (bs cs stuck own : List Path) (changed other : Bool) → heads ≡ mid → bs ≡ cs → stuck ≡ own
+      → changed ≡ other
       → passing_at cuts heads round bs stuck changed ≡ passing_at cuts mid round cs own other
   same_passing heads mid round bs cs stuck own changed other a b c d = cc (a, b, c, d)
 
   -- an instance is read
   line_read : (l : Line) (heads mid : List Head) (round : ℕ) (b : Path) (bs next stuck : List Path) (changed : Bool)
       → IsKept flow defs (passing_at cuts heads round (b ∷ bs) stuck changed) → IsPassLine flow w round (over cuts heads) l b next mid
-      → reading_line k flow defs l (passing_at cuts heads round (b ∷ bs) stuck changed) ≡ Ok (passing_at cuts mid round (next ++ bs) (stuck ++ marked l b) (changed || changes l))
+      → reading_line k flow defs l (passing_at cuts heads round (b ∷ bs) stuck changed) ≡ Ok
+      (passing_at cuts mid round (next ++ bs) (stuck ++ marked l b) (changed || changes l))
   line_read l heads mid round b bs next stuck changed kept i =
       at l i
-      (rule_to laws k flow defs right l (passing_at cuts heads round (b ∷ bs) stuck changed) (passing_at cuts mid round (next ++ bs) (stuck ++ marked l b) (changed || changes l)) kept
+      (rule_to laws k flow defs right l (passing_at cuts heads round (b ∷ bs) stuck changed)
+      (passing_at cuts mid round (next ++ bs) (stuck ++ marked l b) (changed || changes l)) kept
       (record { in_pass = refl; first = b; others = bs; open_are = refl; next = next; heads = mid; instance = i; gives = refl }))
     where
       at : (l : Line) → IsPassLine flow w round (over cuts heads) l b next mid
-          → reading_rule k flow defs l (passing_at cuts heads round (b ∷ bs) stuck changed) ≡ Ok (passing_at cuts mid round (next ++ bs) (stuck ++ marked l b) (changed || changes l))
-          → reading_line k flow defs l (passing_at cuts heads round (b ∷ bs) stuck changed) ≡ Ok (passing_at cuts mid round (next ++ bs) (stuck ++ marked l b) (changed || changes l))
+          → reading_rule k flow defs l (passing_at cuts heads round (b ∷ bs) stuck changed) ≡ Ok
+          (passing_at cuts mid round (next ++ bs) (stuck ++ marked l b) (changed || changes l))
+          → reading_line k flow defs l (passing_at cuts heads round (b ∷ bs) stuck changed) ≡ Ok
+          (passing_at cuts mid round (next ++ bs) (stuck ++ marked l b) (changed || changes l))
       at (line.Header version form) i e = absurd i.0
       at (line.Cut p) i e = absurd i.0
       at (line.Head p raw) i e = absurd i.0
@@ -232,30 +250,35 @@ module _ (laws : Laws) (k : Lore) (flow : Flow) (defs : List Def) (right : IsRig
   -- the lines of a pass are read up to what comes after them
   pub rules_to : (n : ℕ) (rules ending : List Line) (heads mid : List Head) (round : ℕ) (bs own stuck : List Path) (changed : Bool)
       → IsKept flow defs (passing_at cuts heads round bs stuck changed) → ReadsPass flow w round cuts rules bs own heads mid
-      → (m : ℕ) × (lines_at n (rules ++ ending) (passing_at cuts heads round bs stuck changed) ≡ lines_at m ending (passing_at cuts mid round [] (stuck ++ own) (changed || changes_some rules)))
+      → (m : ℕ) × (lines_at n (rules ++ ending) (passing_at cuts heads round bs stuck changed) ≡ lines_at m ending
+      (passing_at cuts mid round [] (stuck ++ own) (changed || changes_some rules)))
   rules_to n [] ending heads mid round bs own stuck changed kept r = (
     n,
     ap (lines_at n ending)
-        (same_passing heads mid round bs [] stuck (stuck ++ own) changed (changed || false) (sym r.2) r.0 (sym (append_none stuck) ∙ ap (λ (ps : List Path). stuck ++ ps) (sym r.1)) (sym (or_none changed))),
+        (same_passing heads mid round bs [] stuck (stuck ++ own) changed (changed || false) (sym r.2) r.0
+        (sym (append_none stuck) ∙ ap (λ (ps : List Path). stuck ++ ps) (sym r.1)) (sym (or_none changed))),
   )
   rules_to n (l ∷ rules) ending heads mid round [] own stuck changed kept r = absurd r
   rules_to n (l ∷ rules) ending heads mid round (b ∷ bs) own stuck changed kept (next, heads', later, i, reads, e) =
       let before = passing_at cuts heads round (b ∷ bs) stuck changed in
       let behind' = passing_at cuts heads' round (next ++ bs) (stuck ++ marked l b) (changed || changes l) in
       let read = line_read l heads heads' round b bs next stuck changed kept i in
-      let on = rules_to (suc n) rules ending heads' mid round (next ++ bs) later (stuck ++ marked l b) (changed || changes l) (line_kept laws k flow defs right valid l before behind' kept read) reads in (
+      let on = rules_to (suc n) rules ending heads' mid round (next ++ bs) later (stuck ++ marked l b) (changed || changes l)
+      (line_kept laws k flow defs right valid l before behind' kept read) reads in (
         on.0,
         behind_yes n (reading_line k flow defs l before) (lines_at (suc n) (rules ++ ending)) behind' read
             ∙ on.1
             ∙ ap (lines_at on.0 ending)
-            (same_passing mid mid round [] [] ((stuck ++ marked l b) ++ later) (stuck ++ own) ((changed || changes l) || changes_some rules) (changed || (changes l || changes_some rules)) refl refl
+            (same_passing mid mid round [] [] ((stuck ++ marked l b) ++ later) (stuck ++ own) ((changed || changes l) || changes_some rules)
+            (changed || (changes l || changes_some rules)) refl refl
             (append_twice stuck (marked l b) later ∙ ap (λ (ps : List Path). stuck ++ ps) (sym (stuck_marked l b later) ∙ sym e))
             (or_twice changed (changes l) (changes_some rules))),
       )
 
   -- a pass after one that has changed something
   next_pass : (m : ℕ) (lines : List Line) (mid : List Head) (round : ℕ) (stuck : List Path) (changed : Bool) → changed ≡ true
-      → lines_at m (line.Pass ∷ lines) (passing_at cuts mid round [] stuck changed) ≡ lines_at (suc m) lines (passing_at cuts mid (suc round) (roots flow mid) [] false)
+      → lines_at m (line.Pass ∷ lines) (passing_at cuts mid round [] stuck changed) ≡ lines_at (suc m) lines
+      (passing_at cuts mid (suc round) (roots flow mid) [] false)
   next_pass m lines mid round stuck true e = refl
   next_pass m lines mid round stuck false e = absurd (cc e)
 
@@ -270,10 +293,13 @@ module _ (laws : Laws) (k : Lore) (flow : Flow) (defs : List Def) (right : IsRig
   passes_to n rules (more ∷ passes) heads after round stuck good (changed, own, mid, pass, reads) =
       let ending : List Line = spelled_passes passes ++ line.End ∷ [] in
       let number : suc round + length (more ∷ passes) ≡ round + length (rules ∷ more ∷ passes) = omega arith in
-      let on = rules_to n rules (spelled_passes (more ∷ passes) ++ line.End ∷ []) heads mid (suc round) (roots flow heads) own [] false (opened_kept heads (suc round) good) pass in
-      let good' = pass_keeps laws.made laws.unknown flow defs valid k.lines.know new cuts (suc round) rules (roots flow heads) own heads mid good (opened_kept heads (suc round) good).branches pass in
+      let on = rules_to n rules (spelled_passes (more ∷ passes) ++ line.End ∷ []) heads mid (suc round) (roots flow heads) own [] false
+      (opened_kept heads (suc round) good) pass in
+      let good' = pass_keeps laws.made laws.unknown flow defs valid k.lines.know new cuts (suc round) rules (roots flow heads) own heads mid good
+      (opened_kept heads (suc round) good).branches pass in
       on.1
       ∙ next_pass on.0 ((more ++ spelled_passes passes) ++ line.End ∷ []) mid (suc round) own (changes_some rules) changed
-      ∙ ap (λ (ls : List Line). lines_at (suc on.0) ls (passing_at cuts mid (suc (suc round)) (roots flow mid) [] false)) (append_twice more (spelled_passes passes) (line.End ∷ []))
+      ∙ ap (λ (ls : List Line). lines_at (suc on.0) ls (passing_at cuts mid (suc (suc round)) (roots flow mid) [] false))
+      (append_twice more (spelled_passes passes) (line.End ∷ []))
       ∙ passes_to (suc on.0) more passes mid after (suc round) stuck good' reads
       ∙ ap (λ (j : ℕ). let r : Result Reading (ℕ × ℕ) = Ok (ended_at cuts after j stuck (changes_some (last_pass (more ∷ passes)))) in r) number

@@ -26,9 +26,12 @@ read_is_not_refused k flow defs lines last n p e i = read_or_refused (reading_li
 ended_or_open : (k : Lore) (flow : Flow) (defs : List Def) (lines : List Line) (last : Reading) (stage : Stage) → last.stage ≡ stage
     → reading_chain k flow defs lines ≡ Ok last → ((last : Reading) × EndsAs k flow defs lines last) ⊎ IsOpen k flow defs lines
 ended_or_open k flow defs lines last finished is e = inl (last, record { read = e; ended = is })
-ended_or_open k flow defs lines last cutting is e = inr (record { last = last; read = e; not_ended = λ f. let clash : cutting ≡ finished = sym is ∙ f in cc clash })
-ended_or_open k flow defs lines last heading is e = inr (record { last = last; read = e; not_ended = λ f. let clash : heading ≡ finished = sym is ∙ f in cc clash })
-ended_or_open k flow defs lines last passing is e = inr (record { last = last; read = e; not_ended = λ f. let clash : passing ≡ finished = sym is ∙ f in cc clash })
+ended_or_open k flow defs lines last cutting is e =
+    inr (record { last = last; read = e; not_ended = λ f. let clash : cutting ≡ finished = sym is ∙ f in cc clash })
+ended_or_open k flow defs lines last heading is e =
+    inr (record { last = last; read = e; not_ended = λ f. let clash : heading ≡ finished = sym is ∙ f in cc clash })
+ended_or_open k flow defs lines last passing is e =
+    inr (record { last = last; read = e; not_ended = λ f. let clash : passing ≡ finished = sym is ∙ f in cc clash })
 
 pub chains_are_decided : ChainsAreDecided
 chains_are_decided k flow defs lines = elim (read_is_decided (reading_line k flow defs) 2 lines begun_chain) [

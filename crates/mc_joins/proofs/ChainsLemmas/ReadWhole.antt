@@ -14,7 +14,8 @@ use Rattle.mc_kernel.specs.Certificates.{WrittenHead, states_of}
 use Rattle.mc_kernel.proofs.ReadingLemmas.Front.{head_line}
 use Rattle.mc_kernel.proofs.ReadingLemmas.Lists.{all_contained, append_twice, each_contained, full_from_heads, heads_from_full}
 use Rattle.mc_joins.specs.Chains.Chains.{IsLegalChain, ReadsPasses, changes_some, last_pass}
-use Rattle.mc_joins.specs.Chains.Judges.{Lore, Reading, Stage, Verdict, alarms, basis, begun_chain, cutting, ends_early, finished, heading, no_alarm, passing, reading_chain, reading_line, unfinished, verdict_at, verdict_by, verdict_of}
+use Rattle.mc_joins.specs.Chains.Judges.{Lore, Reading, Stage, Verdict, alarms, basis, begun_chain, cutting, ends_early, finished, heading, no_alarm}
+use Rattle.mc_joins.specs.Chains.Judges.{passing, reading_chain, reading_line, unfinished, verdict_at, verdict_by, verdict_of}
 use Rattle.mc_joins.specs.Chains.Laws.{IsRight}
 use Rattle.mc_joins.specs.Chains.Read.{EndsAs, IsSaid, at_end}
 use Rattle.mc_joins.specs.Chains.ReadLaws.{AlarmsAreSaid, LegalChainsAreRead, NoAlarmIsSaid, OpenIsSaid, RefusedIsNeverLegal, UnfinishedIsSaid}
@@ -26,7 +27,8 @@ use Rattle.mc_joins.proofs.ChainsLemmas.ReadPasses.{ended_at, opened_kept, passe
 
 -- how the lines of a chain are spelled
 spelled : (lines rest ending : List Line) (rules : List Line) (passes : List (List Line)) (cuts some : List PointId) (written more : List WrittenHead)
-    → lines ≡ map line.Cut some ++ rest → cuts ≡ some → rest ≡ map head_line more ++ (line.Pass ∷ ending) → written ≡ more → ending ≡ rules ++ (spelled_passes passes ++ line.End ∷ [])
+    → lines ≡ map line.Cut some ++ rest → cuts ≡ some → rest ≡ map head_line more ++ (line.Pass ∷ ending) → written ≡ more
+    → ending ≡ rules ++ (spelled_passes passes ++ line.End ∷ [])
     → lines ≡ map line.Cut cuts ++ (map head_line written ++ (spelled_passes (rules ∷ passes) ++ line.End ∷ []))
 spelled lines rest ending rules passes cuts some written more a b c d e =
     let whole : ending ≡ (rules ++ spelled_passes passes) ++ line.End ∷ [] = e ∙ sym (append_twice rules (spelled_passes passes) (line.End ∷ [])) in
@@ -64,7 +66,8 @@ module _ (laws : Laws) (k : Lore) (flow : Flow) (defs : List Def) (right : IsRig
   legal_to c = at c.passes c.spelled c.reads
     where
       at : (passes : List (List Line))
-          → ◌≡◌ {A = List Line} (line.Header One Chain ∷ lines) (line.Header One Chain ∷ (map line.Cut c.cuts ++ (map head_line c.written ++ (spelled_passes passes ++ line.End ∷ []))))
+          → ◌≡◌ {A = List Line} (line.Header One Chain ∷ lines)
+          (line.Header One Chain ∷ (map line.Cut c.cuts ++ (map head_line c.written ++ (spelled_passes passes ++ line.End ∷ []))))
           → ReadsPasses flow (basis k defs) c.cuts 1 passes c.stuck (states_of c.written) c.heads
           → reading_chain k flow defs lines ≡ Ok (ended_at c.cuts c.heads (length passes) c.stuck (changes_some (last_pass passes)))
       at [] written reads = absurd reads
@@ -72,14 +75,18 @@ module _ (laws : Laws) (k : Lore) (flow : Flow) (defs : List Def) (right : IsRig
           let ending : List Line = rules ++ (spelled_passes passes ++ line.End ∷ []) in
           let same : (rules ++ spelled_passes passes) ++ line.End ∷ [] ≡ ending = append_twice rules (spelled_passes passes) (line.End ∷ []) in
           let is : lines ≡ map line.Cut c.cuts ++ (map head_line c.written ++ (line.Pass ∷ ending)) = cc (written, same) in
-          let front = front_to k flow defs right.formed c.cuts c.written ending c.cuts_are.ascend (all_contained (IsPoint flow) c.cuts c.cuts_are.skips) (full_from_heads flow c.cuts c.cuts_are.all_heads) c.ordered c.written_are in
+          let front = front_to k flow defs right.formed c.cuts c.written ending c.cuts_are.ascend (all_contained (IsPoint flow) c.cuts c.cuts_are.skips)
+          (full_from_heads flow c.cuts c.cuts_are.all_heads) c.ordered c.written_are in
           ap (λ (ls : List Line). reading_chain k flow defs ls) is
           ∙ front.1
-          ∙ passes_to laws k flow defs right valid c.cuts front.0 rules passes (states_of c.written) c.heads 0 c.stuck (good_heads c.cuts flow defs c.written c.written_are) reads
-          ∙ ap (λ (n : ℕ). let r : Result Reading (ℕ × ℕ) = Ok (ended_at c.cuts c.heads n c.stuck (changes_some (last_pass (rules ∷ passes)))) in r) (zero-add (length (rules ∷ passes)))
+          ∙ passes_to laws k flow defs right valid c.cuts front.0 rules passes (states_of c.written) c.heads 0 c.stuck
+          (good_heads c.cuts flow defs c.written c.written_are) reads
+          ∙ ap (λ (n : ℕ). let r : Result Reading (ℕ × ℕ) = Ok (ended_at c.cuts c.heads n c.stuck (changes_some (last_pass (rules ∷ passes)))) in r)
+          (zero-add (length (rules ∷ passes)))
 
   legal_ends : (last : Reading) → ((c : whole_chain) × (last ≡ at_end c)) → EndsAs k flow defs lines last
-  legal_ends last (c, is) = record { read = legal_to c ∙ ap (λ (r : Reading). let x : Result Reading (ℕ × ℕ) = Ok r in x) (sym is); ended = ap (λ (r : Reading). r.stage) is }
+  legal_ends last (c, is) =
+      record { read = legal_to c ∙ ap (λ (r : Reading). let x : Result Reading (ℕ × ℕ) = Ok r in x) (sym is); ended = ap (λ (r : Reading). r.stage) is }
 
   -- ---- what is said
 
@@ -100,12 +107,14 @@ module _ (laws : Laws) (k : Lore) (flow : Flow) (defs : List Def) (right : IsRig
   said_to : (v : Verdict) (c : whole_chain) → verdict_of (at_end c) ≡ v → IsSaid k flow defs lines v
   said_to v c e = record { last = at_end c; read = legal_to c; says = e }
 
-  alarms_from : (n : ℕ) (changed : Bool) (stuck : List Path) → (if changed then unfinished else verdict_by stuck) ≡ alarms n → (changed ≡ false) × (length stuck ≡ n) × (0 < n)
+  alarms_from : (n : ℕ) (changed : Bool) (stuck : List Path) → (if changed then unfinished else verdict_by stuck) ≡ alarms n → (changed ≡ false)
+      × (length stuck ≡ n) × (0 < n)
   alarms_from n true stuck e = absurd (cc e)
   alarms_from n false [] e = absurd (cc e)
   alarms_from n false (b ∷ bs) e = let same : suc (length bs) ≡ n = cc e in (refl, same, omega arith)
 
-  alarms_to : (n : ℕ) (changed : Bool) (stuck : List Path) → changed ≡ false → length stuck ≡ n → 0 < n → (if changed then unfinished else verdict_by stuck) ≡ alarms n
+  alarms_to : (n : ℕ) (changed : Bool) (stuck : List Path) → changed ≡ false → length stuck ≡ n → 0 < n
+      → (if changed then unfinished else verdict_by stuck) ≡ alarms n
   alarms_to n true stuck c e some = absurd (cc c)
   alarms_to n false [] c e some = absurd (let never : ⊥ = omega arith in never)
   alarms_to n false (b ∷ bs) c e some = ap alarms e
@@ -127,7 +136,8 @@ module _ (laws : Laws) (k : Lore) (flow : Flow) (defs : List Def) (right : IsRig
   changed_to changed stuck c = ap (λ (b : Bool). if b then unfinished else verdict_by stuck) c
 
 pub legal_chains_are_read : Laws → LegalChainsAreRead
-legal_chains_are_read laws k flow defs lines last valid right = (legal_from laws k flow defs right valid lines last, legal_ends laws k flow defs right valid lines last)
+legal_chains_are_read laws k flow defs lines last valid right =
+    (legal_from laws k flow defs right valid lines last, legal_ends laws k flow defs right valid lines last)
 
 pub alarms_are_said : Laws → AlarmsAreSaid
 alarms_are_said laws k flow defs lines n valid right = (
@@ -135,7 +145,8 @@ alarms_are_said laws k flow defs lines n valid right = (
       let c = said_from laws k flow defs right valid lines (alarms n) (λ e. cc e) s in
       let a = alarms_from laws k flow defs right valid lines n (changes_some (last_pass c.0.passes)) c.0.stuck c.1 in
       (c.0, a.0, a.1, a.2),
-  λ (c, final, count, some). said_to laws k flow defs right valid lines (alarms n) c (alarms_to laws k flow defs right valid lines n (changes_some (last_pass c.passes)) c.stuck final count some),
+  λ (c, final, count, some). said_to laws k flow defs right valid lines (alarms n) c
+      (alarms_to laws k flow defs right valid lines n (changes_some (last_pass c.passes)) c.stuck final count some),
 )
 
 pub no_alarm_is_said : Laws → NoAlarmIsSaid
@@ -144,7 +155,8 @@ no_alarm_is_said laws k flow defs lines valid right = (
       let c = said_from laws k flow defs right valid lines no_alarm (λ e. cc e) s in
       let a = none_from laws k flow defs right valid lines (changes_some (last_pass c.0.passes)) c.0.stuck c.1 in
       (c.0, a.0, a.1),
-  λ (c, final, none). said_to laws k flow defs right valid lines no_alarm c (none_to laws k flow defs right valid lines (changes_some (last_pass c.passes)) c.stuck final none),
+  λ (c, final, none). said_to laws k flow defs right valid lines no_alarm c
+      (none_to laws k flow defs right valid lines (changes_some (last_pass c.passes)) c.stuck final none),
 )
 
 pub unfinished_is_said : Laws → UnfinishedIsSaid
@@ -152,7 +164,8 @@ unfinished_is_said laws k flow defs lines valid right = (
   λ s.
       let c = said_from laws k flow defs right valid lines unfinished (λ e. cc e) s in
       (c.0, changed_from laws k flow defs right valid lines (changes_some (last_pass c.0.passes)) c.0.stuck c.1),
-  λ (c, changed). said_to laws k flow defs right valid lines unfinished c (changed_to laws k flow defs right valid lines (changes_some (last_pass c.passes)) c.stuck changed),
+  λ (c, changed). said_to laws k flow defs right valid lines unfinished c
+      (changed_to laws k flow defs right valid lines (changes_some (last_pass c.passes)) c.stuck changed),
 )
 
 -- ---- chains that have not ended

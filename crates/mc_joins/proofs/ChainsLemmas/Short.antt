@@ -26,7 +26,8 @@ use Rattle.mc_joins.proofs.ChainsLemmas.Stays.{pass_stays, rules_pass}
 abbrev spelled_with : List PointId → List WrittenHead → List Line → List Line
 spelled_with cuts written ending = line.Header One Chain ∷ (map line.Cut cuts ++ (map (λ h. line.Head h.0 h.1) written ++ ending))
 
-one_pass : (rules : List Line) → ◌≡◌ {A = List Line} (line.Pass ∷ (rules ++ line.End ∷ [])) (flat_map (λ rules. line.Pass ∷ rules) (rules ∷ []) ++ line.End ∷ [])
+one_pass : (rules : List Line) → ◌≡◌ {A = List Line} (line.Pass ∷ (rules ++ line.End ∷ []))
+    (flat_map (λ rules. line.Pass ∷ rules) (rules ∷ []) ++ line.End ∷ [])
 one_pass rules = ap (λ (ls : List Line). line.Pass ∷ (ls ++ line.End ∷ [])) (sym (append_none rules))
 
 -- the states of written heads are at cuts

@@ -20,7 +20,8 @@ module _ (flow : Flow) (w : Basis) (cuts : List PointId) where
       → IsPassLine flow w round (over cuts heads) line b next mid → IsInstance flow w.defs (over cuts heads) line b next × (mid ≡ heads)
   line_stays round heads mid line b next none i = at line none i
     where
-      at : (l : Line) → changes l ≡ false → IsPassLine flow w round (over cuts heads) l b next mid → IsInstance flow w.defs (over cuts heads) l b next × (mid ≡ heads)
+      at : (l : Line) → changes l ≡ false → IsPassLine flow w round (over cuts heads) l b next mid → IsInstance flow w.defs (over cuts heads) l b next
+          × (mid ≡ heads)
       at (C2 tries) none i = absurd (cc none)
       at (C3 j steps) none i = absurd (cc none)
       at l none i = (i.0, i.1)
