@@ -8,6 +8,7 @@ pub mod ReadPasses
 pub mod ReadFront
 pub mod ReadWhole
 pub mod LinesAgree
+pub mod JoinsAgree
 pub mod ReadAgree
 pub mod Assertion
 pub mod Places

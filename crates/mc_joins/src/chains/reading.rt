@@ -2,7 +2,7 @@
 ghost use Rattle.mc_joins.specs.Chains.ReadLaws.{PassLinesAreJudged, BegunChainIsKept, LinesKeepChains, PassLinesAreRead};
 ghost use Rattle.mc_joins.specs.Chains.ReadLaws.{LegalChainsAreRead, AlarmsAreSaid, NoAlarmIsSaid, UnfinishedIsSaid, OpenIsSaid};
 ghost use Rattle.mc_joins.specs.Chains.ReadLaws.{ShortChainsAreLegal, LinesAreAdded, RefusalsAreRead, RefusalIsOne};
-ghost use Rattle.mc_joins.specs.Chains.ReadLaws.{ChainsAreDecided, ReadIsNotRefused, RefusedIsNeverLegal, ChainJudgesAgree};
+ghost use Rattle.mc_joins.specs.Chains.ReadLaws.{ChainsAreDecided, ReadIsNotRefused, RefusedIsNeverLegal, ChainJudgesAgree, LegalChainsAreOne};
 
 use crate::chains::laws::changes_are_judged;
 use crate::same::numbering_is_sound;
@@ -62,9 +62,10 @@ pub fn legal_chains_are_read()
 }
 
 /// What judges rightly judges alike: which line of a chain is refused, and its premise, are the chain's own, and so is
-/// what it becomes.
+/// what it becomes. And a legal chain is one by whatever tells what is entailed.
 pub fn chain_judges_agree()
-    ensures { ChainJudgesAgree }
+    ensures judges { ChainJudgesAgree }
+    ensures legal { LegalChainsAreOne }
 {
     changes_are_judged();
     joins_are_determined();

@@ -1,4 +1,5 @@
-use Rattle.mc_joins.proofs.ChainsLemmas.ReadAgree.{StepLaws, chain_judges_agree}
+use Rattle.mc_joins.proofs.ChainsLemmas.JoinsAgree.{MakingLaws, StepLaws, legal_chains_are_one}
+use Rattle.mc_joins.proofs.ChainsLemmas.ReadAgree.{chain_judges_agree}
 use Rattle.mc_joins.proofs.ChainsLemmas.ReadLines.{Laws}
 use Rattle.mc_joins.proofs.chains.reading.chain_judges_agree.Goals as goal
 
@@ -18,6 +19,6 @@ returns c =
       keep = c.steps_are_determined.ensures.made;
       prefixes = c.steps_are_determined.ensures.steps;
       stuck = c.stuck_is_every.ensures;
-      joins = c.joins_are_determined.ensures;
     } in
-    chain_judges_agree steps laws
+    let making : MakingLaws = record { made = laws.made; unknown = laws.unknown; anew_bounded = laws.anew_bounded; joins = laws.joins } in
+    record { judges = chain_judges_agree steps c.joins_are_determined.ensures laws; legal = legal_chains_are_one steps making }
