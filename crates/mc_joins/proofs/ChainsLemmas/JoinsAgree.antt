@@ -9,19 +9,16 @@ use Rattle.mc_flow.specs.declared.defs.rules.Def.{Def}
 use Rattle.mc_flow.specs.declared.graph.Flow.{Flow}
 use Rattle.mc_flow.specs.Valid.{IsValid}
 use Rattle.mc_state.specs.Known.{Test}
-use Rattle.mc_state.specs.Laws.{UnknownIsBounded}
 use Rattle.mc_state.specs.Lists.{all_both}
 use Rattle.mc_state.specs.State.{State}
 use Rattle.mc_state.specs.declared.line.JoinStep.{JoinStep}
 use Rattle.mc_kernel.specs.Branches.{Head, Path, roots, states_at}
 use Rattle.mc_kernel.specs.Certificates.{states_of}
 use Rattle.mc_kernel.specs.Reading.Documents.{IsMade}
-use Rattle.mc_kernel.specs.Reading.Laws.{LinesMakeWellMade}
 use Rattle.mc_kernel.proofs.ReadingLemmas.Lists.{all_join}
 use Rattle.mc_joins.specs.Joinings.{Joining, begun, next_pair}
-use Rattle.mc_joins.specs.Laws.{JoinsMakeWell, PrefixesAreDetermined, StepsAreDetermined, StepsKeepMade, StuckIsEvery}
+use Rattle.mc_joins.specs.Laws.{PrefixesAreDetermined, StepsAreDetermined, StepsKeepMade, StuckIsEvery}
 use Rattle.mc_joins.specs.Parts.{Basis}
-use Rattle.mc_joins.specs.Same.Laws.{AnewIsBounded}
 use Rattle.mc_joins.specs.Steps.{after_step, after_steps, is_stuck}
 use Rattle.mc_joins.specs.Whole.{GetsStuck}
 use Rattle.mc_joins.specs.Chains.Chains.{IsPassLine, KnowsStates, ReadsPass, ReadsPasses, over}
@@ -31,14 +28,7 @@ use Rattle.mc_joins.specs.Chains.ReadLaws.{LegalChainsAreOne}
 use Rattle.mc_joins.proofs.ChainsLemmas.Final.{all_at, good_heads, line_keeps, pass_keeps, roots_made, states_made}
 use Rattle.mc_joins.proofs.ChainsLemmas.Judging.{one_of}
 use Rattle.mc_joins.proofs.ChainsLemmas.LinesAgree.{one_test}
-use Rattle.mc_joins.proofs.ChainsLemmas.NewStates.{NewStatesAreMade, new_states}
-
--- what is used of lines, of new states and of joins
-pub record MakingLaws : Type 0 where
-  pub made : LinesMakeWellMade
-  pub unknown : UnknownIsBounded
-  pub anew_bounded : AnewIsBounded
-  pub joins : JoinsMakeWell
+use Rattle.mc_joins.proofs.ChainsLemmas.NewStates.{MakingLaws, NewStatesAreMade, new_states}
 
 -- what is used of steps of joins
 pub record StepLaws : Type 0 where

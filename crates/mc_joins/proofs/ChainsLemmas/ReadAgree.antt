@@ -58,7 +58,7 @@ have_same n (Some w) None f h e same = absurd (cc e)
 module _ (steps : StepLaws) (joins : JoinsAreDetermined) (laws : Laws) (k other : Lore) (flow : Flow) (defs : List Def) (right : IsRight k flow defs)
     (right' : IsRight other flow defs) where
   new : NewStatesAreMade k.lines.know flow defs
-  new = new_states laws.anew_bounded laws.joins k.lines.know flow defs right.knows
+  new = new_states laws.making.anew_bounded laws.making.joins k.lines.know flow defs right.knows
 
   knows : (s : State) → Made flow defs s → k.lines.know s ≡ other.lines.know s
   knows s made = one_knows (k.lines.know s) (other.lines.know s) s (right.knows s made) (right'.knows s made)
