@@ -10,6 +10,9 @@ pub mod ReadWhole
 pub mod LinesAgree
 pub mod JoinsAgree
 pub mod ReadAgree
+pub mod TidyOr
+pub mod SameOr
+pub mod Lores
 pub mod Assertion
 pub mod Places
 pub mod Judging

@@ -1,5 +1,5 @@
 -- Steps of joins are judged alike by whatever tells what is entailed, and so are chains.
-use Rattle.std.proofs.Common.{◌≡◌, ◌∷◌, ◌++◌, ℕ, suc, List, [], Bool, true, false, Option, Some, None, refl, ap, sym, subst, ◌∙◌}
+use Rattle.std.proofs.Common.{◌≡◌, ◌∷◌, ◌++◌, ℕ, suc, List, [], Bool, Option, Some, None, refl, ap, sym, subst, ◌∙◌}
 use Rattle.std.specs.Prelude.{◌&&◌, Contains, is_none, is_some, option_and_then, if◌then◌else◌}
 use Rattle.std.specs.List.{AllByRecursion, AllZip}
 use Rattle.mc_base.specs.declared.ids.PointId.{PointId}
@@ -100,7 +100,8 @@ module _ (steps : StepLaws) (flow : Flow) (defs : List Def) (know other : State 
       and_same (gets_stuck w own s t) (gets_stuck v own s t) (all_both (gets_stuck w own) lefts tries) (all_both (gets_stuck v own) lefts tries)
       (gets_same own s t made.0 o_made) (tries_same own lefts tries o_made made.1)
 
-  pub whole_same : (left own : State) (list : List JoinStep) → Made flow defs left → Made flow defs own → whole_join w left own list ≡ whole_join v left own list
+  pub whole_same : (left own : State) (list : List JoinStep) → Made flow defs left → Made flow defs own
+      → whole_join w left own list ≡ whole_join v left own list
   whole_same left own list l_made o_made =
       ap (option_and_then (λ (last : Joining). if is_none (next_pair last) then Some last else None)) (prefix_same left own list l_made o_made)
 
@@ -188,8 +189,14 @@ module _ (steps : StepLaws) (flow : Flow) (defs : List Def) (know other : State 
         pass_too round rules (roots flow heads) stuck heads after good (roots_made laws.made laws.unknown flow defs valid know new cuts heads good) r
     passes_too round (rules ∷ more ∷ passes) stuck heads after good (changed, own, mid, pass, reads) =
         let made = roots_made laws.made laws.unknown flow defs valid know new cuts heads good in
-        let good' = pass_keeps laws.made laws.unknown flow defs valid know new cuts round rules (roots flow heads) own heads mid good made pass in
-        (changed, own, mid, pass_too round rules (roots flow heads) own heads mid good made pass, passes_too (suc round) (more ∷ passes) stuck mid after good' reads)
+        let good' = pass_keeps laws.made laws.unknown flow defs valid know new cuts round rules (roots flow heads) own heads mid good made pass in (
+          changed,
+          own,
+          mid,
+          pass_too round rules (roots flow heads) own heads mid good made pass,
+          passes_too (suc round)
+              (more ∷ passes) stuck mid after good' reads,
+        )
 
 pub legal_chains_are_one : StepLaws → MakingLaws → LegalChainsAreOne
 legal_chains_are_one steps laws know other flow defs lines valid knows knows' c = (

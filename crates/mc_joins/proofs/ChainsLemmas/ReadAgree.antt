@@ -1,6 +1,6 @@
 -- Two right lores read each chain alike.
 use Rattle.std.proofs.Common.{◌≡◌, ℕ, List, [], ◌∷◌, ◌++◌, Bool, true, false, not, Option, Some, None, length, slice_get, refl, ap, sym, subst, ◌∙◌}
-use Rattle.std.specs.Prelude.{◌&&◌, ◌||◌, ◌==◌, Ok, is_none, is_some, option_and_then, if◌then◌else◌}
+use Rattle.std.specs.Prelude.{◌&&◌, ◌||◌, ◌==◌, Ok}
 use Rattle.std.specs.List.{AllByRecursion, list_all}
 use Rattle.mc_lines.specs.declared.cert.line.Line.{Line}
 use Rattle.mc_lines.specs.declared.cert.line.Line.TheVariants as line
@@ -22,7 +22,7 @@ use Rattle.mc_kernel.proofs.ReadingLemmas.Kept.{first_is}
 use Rattle.mc_joins.specs.Joinings.{Joining, begun, next_pair}
 use Rattle.mc_joins.specs.Laws.{JoinsAreDetermined}
 use Rattle.mc_joins.specs.Parts.{Basis}
-use Rattle.mc_joins.specs.Steps.{after_step, after_steps, is_stuck}
+use Rattle.mc_joins.specs.Steps.{after_steps}
 use Rattle.mc_joins.specs.Whole.{Joins}
 use Rattle.mc_joins.specs.Chains.Chains.{changes, over}
 use Rattle.mc_joins.specs.Chains.Judges.{Lore, Outcome, Reading, basis, begun_chain, gets_stuck, given_by, heading, is_passing, joining_state}
@@ -161,7 +161,8 @@ module _ (steps : StepLaws) (joins : JoinsAreDetermined) (laws : Laws) (k other 
         let tidy = and_both (k.tidy b.state) (k.tidy left) e4 in
         let o_tidy = (right.tidy b.state made).0 tidy.0 in
         let l_tidy = (right.tidy left l_made).0 tidy.1 in
-        have_same 5 (whole_join w left b.state list) (whole_join v left b.state list) _ _ (whole_same steps flow defs k.lines.know other.lines.know right.knows right'.knows left b.state list l_made made) (λ last whole.
+        have_same 5 (whole_join w left b.state list) (whole_join v left b.state list) _ _
+        (whole_same steps flow defs k.lines.know other.lines.know right.knows right'.knows left b.state list l_made made) (λ last whole.
         need_same 6 (not (k.same (given_by k round left b.state last) left)) (not (other.same (given_by other round left b.state last) left)) _ _
         (ap not (test_same round left b.state list last l_made made l_tidy o_tidy whole)) (λ e6.
         ap (λ (r : State). let heads : Judged (List Head) = Ok (with_state_for b.point j r g.heads) in heads)

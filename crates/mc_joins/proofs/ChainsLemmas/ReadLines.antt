@@ -172,7 +172,8 @@ module _ (laws : Laws) (k : Lore) (flow : Flow) (defs : List Def) (right : IsRig
     read_kept : (l : Line) (r next : Reading) → IsKept flow defs r → IsReadAt flow (basis k defs) l r next → IsKept flow defs next
     read_kept l r next kept i =
         let made = subst (AllByRecursion (IsMade flow defs)) i.open_are kept.branches in
-        let keeps = line_keeps laws.making.made laws.making.unknown flow defs valid k.lines.know new r.cuts r.round r.heads i.heads l i.first i.next kept.heads made.0
+        let keeps = line_keeps laws.making.made laws.making.unknown flow defs valid k.lines.know new r.cuts r.round r.heads i.heads l i.first i.next
+        kept.heads made.0
         i.instance in
         subst (IsKept flow defs) (sym i.gives) (record { heads = keeps.1; branches = all_join (IsMade flow defs) i.next i.others keeps.0 made.1 })
 

@@ -60,7 +60,8 @@ module _ (laws : Laws) (k : Lore) (flow : Flow) (defs : List Def) (right : IsRig
 
   -- a pass opens kept branches
   pub opened_kept : (heads : List Head) (round : ℕ) → AllByRecursion Good heads → IsKept flow defs (passing_at cuts heads round (roots flow heads) [] false)
-  opened_kept heads round good = record { heads = good; branches = roots_made laws.making.made laws.making.unknown flow defs valid k.lines.know new cuts heads good }
+  opened_kept heads round good =
+      record { heads = good; branches = roots_made laws.making.made laws.making.unknown flow defs valid k.lines.know new cuts heads good }
 
   -- passes, numbered from after a number on, after which the chain has ended
   pub record PassesOf (round : ℕ) (passes : List (List Line)) (heads : List Head) (last : Reading) : Type 0 where

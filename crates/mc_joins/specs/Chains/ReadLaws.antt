@@ -146,3 +146,7 @@ LegalChainsAreOne =
     (know other : State → Test) (flow : Flow) (defs : List Def) (lines : List Line)
     → IsValid flow defs → KnowsStates flow defs know → KnowsStates flow defs other
     → (c : IsLegalChain know flow defs lines) → (d : IsLegalChain other flow defs lines) × (at_end d ≡ at_end c)
+
+-- of each valid flow graph there is a right lore
+abbrev pub LoresAreThere : Type 0
+LoresAreThere = (flow : Flow) (defs : List Def) → IsValid flow defs → (k : Lore) × IsRight k flow defs
