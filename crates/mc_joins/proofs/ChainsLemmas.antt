@@ -10,6 +10,7 @@ pub mod ReadWhole
 pub mod LinesAgree
 pub mod JoinsAgree
 pub mod ReadAgree
+pub mod ShortReadings
 pub mod TidyOr
 pub mod SameOr
 pub mod Lores

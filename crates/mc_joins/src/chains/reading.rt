@@ -3,6 +3,7 @@ ghost use Rattle.mc_joins.specs.Chains.ReadLaws.{PassLinesAreJudged, BegunChainI
 ghost use Rattle.mc_joins.specs.Chains.ReadLaws.{LegalChainsAreRead, AlarmsAreSaid, NoAlarmIsSaid, UnfinishedIsSaid, OpenIsSaid};
 ghost use Rattle.mc_joins.specs.Chains.ReadLaws.{ShortChainsAreLegal, LinesAreAdded, RefusalsAreRead, RefusalIsOne};
 ghost use Rattle.mc_joins.specs.Chains.ReadLaws.{ChainsAreDecided, ReadIsNotRefused, RefusedIsNeverLegal, ChainJudgesAgree, LegalChainsAreOne};
+ghost use Rattle.mc_joins.specs.Chains.Short.{ShortReadingsAgree};
 
 use crate::chains::laws::changes_are_judged;
 use crate::same::numbering_is_sound;
@@ -11,9 +12,11 @@ use mc_kernel::lines_are_judged;
 use mc_kernel::reading::lines_make_well_made;
 use mc_state::numbers_stay_bounded;
 
-/// A final legal chain of one pass is what a chain of one pass is where no line changes the states of cuts.
+/// A final legal chain of one pass is what a chain of one pass is where no line changes the states of cuts. And lines
+/// without one that does are read as there.
 pub fn short_chains_are_legal()
-    ensures { ShortChainsAreLegal }
+    ensures legal { ShortChainsAreLegal }
+    ensures read { ShortReadingsAgree }
 {}
 
 /// A chain goes on line by line. It has ended, is open, or has one line that is refused, with one premise.
