@@ -1,15 +1,14 @@
 -- Chains without lines that change the states of cuts are read as in `mc_kernel`.
-use Rattle.std.proofs.Common.{◌≡◌, ℕ, suc, List, [], ◌∷◌, ◌++◌, Bool, true, false, not, Option, Some, None, refl, ap, sym, subst, ◌∙◌}
+use Rattle.std.proofs.Common.{◌≡◌, ℕ, suc, List, [], ◌∷◌, ◌++◌, Bool, true, false, refl, ap, sym, subst, ◌∙◌}
 use Rattle.std.specs.Prelude.{Result, Ok, Err, ◌&&◌, ◌||◌}
 use Rattle.mc_base.specs.declared.ids.PointId.{PointId}
 use Rattle.mc_lines.specs.declared.cert.line.Line.{Line}
 use Rattle.mc_lines.specs.declared.cert.line.Line.TheVariants as line
 use Rattle.mc_flow.specs.declared.defs.rules.Def.{Def}
 use Rattle.mc_flow.specs.declared.graph.Flow.{Flow}
-use Rattle.mc_state.specs.Premises.{Judged, need, have, then_give}
+use Rattle.mc_state.specs.Premises.{Judged, need, then_give}
 use Rattle.mc_state.proofs.Numbered.{need_ok}
 use Rattle.mc_state.specs.declared.line.Form.TheVariants.{Chain}
-use Rattle.mc_state.specs.declared.raw_state.RawState.{RawState}
 use Rattle.mc_state.specs.RawStates.{state_of}
 use Rattle.mc_rules_steps.specs.Operands.{code_at}
 use Rattle.mc_kernel.specs.Branches.{Head, Path, roots}
@@ -21,7 +20,7 @@ use Rattle.mc_kernel.proofs.ReadingLemmas.Front as front
 use Rattle.mc_kernel.proofs.ReadingLemmas.Rules as rules
 use Rattle.mc_joins.specs.Chains.Chains.{changes_some, over}
 use Rattle.mc_joins.specs.Chains.InOrder.{behind}
-use Rattle.mc_joins.specs.Chains.Judges.{Lore, Outcome, Reading, reading_line, reading_lines, stands_behind}
+use Rattle.mc_joins.specs.Chains.Judges.{Lore, Outcome, Reading, reading_lines, stands_behind}
 use Rattle.mc_joins.specs.Chains.Short.{ShortReadingsAgree, as_chain, seen_as_chain}
 use Rattle.mc_joins.proofs.ChainsLemmas.ReadFront.{cutting_at, heading_at, same_place, states_end}
 use Rattle.mc_joins.proofs.ChainsLemmas.ReadPasses.{ended_at, passing_at}

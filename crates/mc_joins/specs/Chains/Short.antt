@@ -1,5 +1,5 @@
 -- Chains without lines that change the states of cuts, as `mc_kernel` reads them.
-use Rattle.std.specs.Prelude.{◌≡◌, ℕ, Bool, true, false, List, Result, Ok, Err}
+use Rattle.std.specs.Prelude.{◌≡◌, ℕ, false, List, Result, Ok, Err}
 use Rattle.mc_lines.specs.declared.cert.line.Line.{Line}
 use Rattle.mc_flow.specs.declared.defs.rules.Def.{Def}
 use Rattle.mc_flow.specs.declared.graph.Flow.{Flow}
