@@ -5,3 +5,4 @@ pub mod Joined
 pub mod Forms
 pub mod Good
 pub mod Folds
+pub mod Steps
