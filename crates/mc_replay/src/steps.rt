@@ -272,9 +272,10 @@ fn close(join: &mut Joining, side: Side, pair: &Pair, step: SegStep) -> Result<(
     ensures seen { OnOk result (seen join.new ≡ closed_by step side pair.now (seen join.old)) }
 {
     match step {
-        SegStep::Six => join.closed.insert(0, (across(side), *pair)),
-        SegStep::Seven => Ok(()),
+        SegStep::Six => join.closed.insert(0, (across(side), *pair))?,
+        SegStep::Seven => {}
     }
+    Ok(())
 }
 
 /// The step: a side's edges are folded from its node of the pair to that of another pair. False where it does not apply.
