@@ -1,6 +1,6 @@
 -- What is found and named, and what is folded.
-use Rattle.std.proofs.Common.{◌≡◌, Bool, List, Option, Some, None, refl, sym, ap, ap₂, subst, ◌∙◌}
-use Rattle.std.specs.Prelude.{is_some, option_map, option_and_then}
+use Rattle.std.proofs.Common.{◌≡◌, List, Option, Some, None, Ok, Err, IfOk, refl, sym, ap, ap₂, subst, ◌∙◌}
+use Rattle.std.specs.Prelude.{Result, is_some, option_map, option_and_then, unwrap_or}
 use Rattle.mc_base.specs.declared.ids.EdgeId.{EdgeId}
 use Rattle.mc_base.specs.declared.ids.NodeId.{NodeId}
 use Rattle.mc_base.specs.declared.ids.PredId.{PredId}
@@ -16,24 +16,26 @@ use Rattle.mc_state.specs.Named.{others}
 use Rattle.mc_state.specs.State.{State}
 use Rattle.mc_state.specs.Terms.{plain}
 use Rattle.mc_cover.specs.First.{Choice, first_cover, first_seg_cover}
-use Rattle.mc_joins.specs.Joinings.{Joining, Pair, half, of_side, free_edges}
-use Rattle.mc_joins.specs.Parts.{Basis, Named, Part, nodes_of_args, guessed, ended_part, folded_ind, guessed_seg}
+use Rattle.mc_cover.specs.Goals.{Stop}
+use Rattle.mc_cover.specs.Guessed.{first_edge, guess, summary_of}
+use Rattle.mc_cover.specs.Search.Setting.{free_edges}
+use Rattle.mc_joins.specs.Joinings.{Joining, Pair, half, of_side}
+use Rattle.mc_joins.specs.Joinings.{free_edges as foldable_edges}
+use Rattle.mc_joins.specs.Parts.{Basis, Named, Part, nodes_of_args, guessed, standing_args, ended_part, folded_ind, guessed_seg}
+use Rattle.mc_replay.specs.declared.joining.Half.{Half as KeptHalf}
 use Rattle.mc_replay.specs.declared.joining.Joining.{Joining as Kept}
-use Rattle.mc_replay.specs.Covers.{edges_of}
+use Rattle.mc_replay.specs.Covers.{edges_of, zeros_of}
 use Rattle.mc_replay.specs.Folds.{IndFound, SegFound, OnlyNames, ind_with, seg_with, ind_fold, seg_fold, seg_fold_with, made_ind, made_seg, named_ind, with_state}
 use Rattle.mc_replay.specs.Good.{AreGood}
-use Rattle.mc_replay.specs.Joined.{seen}
+use Rattle.mc_replay.specs.Joined.{seen, seen_half}
 use Rattle.mc_replay.specs.Named.{IsGood, TellsFrom, nodes_of_both, with_named}
 
 -- ---- options
 
-map_map : {X Y Z : Type 0} (f : X → Y) (g : Y → Z) (o : Option X) → option_map g (option_map f o) ≡ option_map (λ x. g (f x)) o
-map_map f g None = refl
-map_map f g (Some x) = refl
-
-then_map : {X Y Z : Type 0} (f : X → Y) (g : Y → Option Z) (o : Option X) → option_and_then g (option_map f o) ≡ option_and_then (λ x. g (f x)) o
-then_map f g None = refl
-then_map f g (Some x) = refl
+-- what is made of the edges of a choice
+then_edges : {X Y : Type 0} (f : List EdgeId → X) (g : X → Option Y) (o : Option Choice) → option_and_then g (option_map f (edges_of o)) ≡ option_and_then (λ c. g (f c.used)) o
+then_edges f g None = refl
+then_edges f g (Some c) = refl
 
 same_some : {X : Type 0} {x y : X} → Some x ≡ Some y → x ≡ y
 same_some e = cc
@@ -47,14 +49,14 @@ map_some f (Some x) = refl
 module _ (w : Basis) (j : Joining) (side : Side) (p : Pair) (pred : PredId) where
   pub ind_bridge : (args : List Term) → folded_ind w j side p pred args ≡ option_and_then (made_ind w j side p pred) (ind_fold w j side p pred args)
   ind_bridge args =
-      sym (then_map (ind_with args) (made_ind w j side p pred)
-      (first_cover (w.know (half j side).state) w.defs pred (plain (of_side side p)) args (free_edges j side p)))
+      sym (then_edges (ind_with args) (made_ind w j side p pred)
+      (first_cover (w.know (half j side).state) w.defs pred (plain (of_side side p)) args (foldable_edges j side p)))
 
   pub seg_bridge : (stop : NodeId) (ends : List Term) → guessed_seg w j side p pred stop ends ≡ option_and_then (made_seg w j side p pred) (seg_fold w j side p pred stop ends)
   seg_bridge stop ends =
       let args = guessed w (half j side) pred (of_side side p) (Some (plain stop, ends)) in
-      sym (then_map (seg_with args stop ends) (made_seg w j side p pred)
-      (first_seg_cover (w.know (half j side).state) w.defs pred (plain (of_side side p)) args (plain stop) ends (free_edges j side p)))
+      sym (then_edges (seg_with args stop ends) (made_seg w j side p pred)
+      (first_seg_cover (w.know (half j side).state) w.defs pred (plain (of_side side p)) args (plain stop) ends (foldable_edges j side p)))
 
   -- it is named where its arguments have nodes
   pub ind_named : (f : IndFound) → is_some (made_ind w j side p pred f) ≡ is_some (nodes_of_args w pred (half j side).state f.args)
@@ -90,6 +92,27 @@ module _ (w : Basis) (j : Joining) (side : Side) (p : Pair) (pred : PredId) wher
       first_at None is = cc
       first_at (Some first) is = last_at first (nodes_of_args w pred first.state f.ends) is
 
+-- ---- what a side has
+
+-- what holds of every good answer
+pub if_ok : {X E : Type 0} {P Q : X → Type 0} → (r : Result X E) → ((x : X) → P x → Q x) → IfOk r P → IfOk r Q
+if_ok (Ok x) f p = f x p
+if_ok (Err e) f p = tt
+
+-- the edges that are left are given by the list of those that are used
+pub same_standing : (w : Basis) (h : KeptHalf) (pred : PredId) (n : NodeId) (defs : List Def) (used : List EdgeId) → w.defs ≡ defs → used ≡ h.used.items
+    → unwrap_or (option_map (λ (found : EdgeId × List NodeId). found.1) (first_edge (summary_of (w.know h.state) pred (plain n)) (free_edges h.state used))) (zeros_of defs pred)
+    ≡ standing_args w (seen_half h) pred n
+same_standing w h pred n defs used same is =
+    ap₂ (λ (z : List EdgeId) (d : List Def).
+    unwrap_or (option_map (λ (found : EdgeId × List NodeId). found.1) (first_edge (summary_of (w.know h.state) pred (plain n)) (free_edges h.state z))) (zeros_of d pred)) is (sym same)
+
+pub same_guess : (w : Basis) (h : KeptHalf) (pred : PredId) (n : NodeId) (stop : Option Stop) (defs : List Def) (at : Term) (used : List EdgeId) → w.defs ≡ defs
+    → at ≡ plain n → used ≡ h.used.items → guess (w.know h.state) defs pred at stop (free_edges h.state used) ≡ guessed w (seen_half h) pred n stop
+same_guess w h pred n stop defs at used same node is =
+    ap₂ (λ (z : List EdgeId) (d : List Def). guess (w.know h.state) d pred at stop (free_edges h.state z)) is (sym same)
+    ∙ ap (λ (a : Term). guess (w.know h.state) w.defs pred a stop (free_edges h.state h.used.items)) node
+
 -- ---- what covers take
 
 pub tells_at : (w : Basis) (s u : State) → s ≡ u → TellsFrom w u → Tells (w.know s) s
@@ -101,9 +124,9 @@ Covers = Test → List Def → Term → Edges → Option Choice
 module _ (w : Basis) (j : Joining) (side : Side) (p : Pair) (cover : Covers) where
   -- the choice at a side of the pair
   abbrev here : Option Choice
-  here = cover (w.know (half j side).state) w.defs (plain (of_side side p)) (free_edges j side p)
+  here = cover (w.know (half j side).state) w.defs (plain (of_side side p)) (foldable_edges j side p)
 
-  same_cover : (s : State) (defs : List Def) (at : NodeId) (es : Edges) → s ≡ (half j side).state → w.defs ≡ defs → at ≡ of_side side p → es ≡ free_edges j side p
+  same_cover : (s : State) (defs : List Def) (at : NodeId) (es : Edges) → s ≡ (half j side).state → w.defs ≡ defs → at ≡ of_side side p → es ≡ foldable_edges j side p
       → cover (w.know s) defs (plain at) es ≡ here
   same_cover s defs at es state same node free =
       ap (λ (z : State). cover (w.know z) defs (plain at) es) state
@@ -111,12 +134,11 @@ module _ (w : Basis) (j : Joining) (side : Side) (p : Pair) (cover : Covers) whe
       ∙ (ap (λ (z : NodeId). cover (w.know (half j side).state) w.defs (plain z) es) node
       ∙ ap (λ (z : Edges). cover (w.know (half j side).state) w.defs (plain (of_side side p)) z) free))
 
-  -- what is made of the edges that it takes
+  -- the edges that it takes
   pub found_by : {X : Type 0} (made : List EdgeId → X) (o : Option (List EdgeId)) (s : State) (defs : List Def) (at : NodeId) (es : Edges)
-      → s ≡ (half j side).state → w.defs ≡ defs → at ≡ of_side side p → es ≡ free_edges j side p
-      → o ≡ edges_of (cover (w.know s) defs (plain at) es) → option_map made o ≡ option_map (λ (c : Choice). made c.used) here
-  found_by made o s defs at es state same node free is =
-      ap (option_map made) (is ∙ ap edges_of (same_cover s defs at es state same node free)) ∙ map_map (λ (c : Choice). c.used) made here
+      → s ≡ (half j side).state → w.defs ≡ defs → at ≡ of_side side p → es ≡ foldable_edges j side p
+      → o ≡ edges_of (cover (w.know s) defs (plain at) es) → option_map made o ≡ option_map made (edges_of here)
+  found_by made o s defs at es state same node free is = ap (option_map made) (is ∙ ap edges_of (same_cover s defs at es state same node free))
 
 -- ---- the sides of a join
 
