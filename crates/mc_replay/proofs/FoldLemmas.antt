@@ -19,7 +19,7 @@ use Rattle.mc_cover.specs.First.{Choice, first_cover, first_seg_cover}
 use Rattle.mc_cover.specs.Goals.{Stop}
 use Rattle.mc_cover.specs.Guessed.{first_edge, guess, summary_of}
 use Rattle.mc_cover.specs.Search.Setting.{free_edges}
-use Rattle.mc_joins.specs.Joinings.{Joining, Pair, half, of_side}
+use Rattle.mc_joins.specs.Joinings.{Half, Joining, Pair, half, of_side}
 use Rattle.mc_joins.specs.Joinings.{free_edges as foldable_edges}
 use Rattle.mc_joins.specs.Parts.{Basis, Named, Part, nodes_of_args, guessed, standing_args, ended_part, folded_ind, guessed_seg}
 use Rattle.mc_replay.specs.declared.joining.Half.{Half as KeptHalf}
@@ -113,10 +113,19 @@ same_guess w h pred n stop defs at used same node is =
     ap₂ (λ (z : List EdgeId) (d : List Def). guess (w.know h.state) d pred at stop (free_edges h.state z)) is (sym same)
     ∙ ap (λ (a : Term). guess (w.know h.state) w.defs pred a stop (free_edges h.state h.used.items)) node
 
+-- with an end as stop
+pub same_stop : (w : Basis) (pred : PredId) (stop : NodeId) (h g : Half) (n m : NodeId) (ends own : List Term) → h ≡ g → n ≡ m → ends ≡ own
+    → guessed w h pred n (Some (plain stop, ends)) ≡ guessed w g pred m (Some (plain stop, own))
+same_stop w pred stop h g n m ends own half node args =
+    ap₂ (λ (z : Half) (x : NodeId). guessed w z pred x (Some (plain stop, ends))) half node ∙ ap (λ (ts : List Term). guessed w g pred m (Some (plain stop, ts))) args
+
 -- ---- what covers take
 
+pub tells_same : (w : Basis) (s u : State) → s ≡ u → TellsFrom w u → TellsFrom w s
+tells_same w s u is t = subst (λ (z : State). TellsFrom w z) (sym is) t
+
 pub tells_at : (w : Basis) (s u : State) → s ≡ u → TellsFrom w u → Tells (w.know s) s
-tells_at w s u is t = let there = subst (λ (z : State). TellsFrom w z) (sym is) t in there.knows s there.made
+tells_at w s u is t = let there = tells_same w s u is t in there.knows s there.made
 
 abbrev Covers : Type 0
 Covers = Test → List Def → Term → Edges → Option Choice
