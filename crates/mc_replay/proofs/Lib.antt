@@ -2,3 +2,4 @@ pub mod Finding
 pub mod NamedLemmas
 pub mod Pairing
 pub mod StepLists
+pub mod FoldLemmas

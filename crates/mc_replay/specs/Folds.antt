@@ -10,7 +10,7 @@ use Rattle.mc_state.specs.declared.terms.Term.{Term}
 use Rattle.mc_state.specs.Named.{IndParts}
 use Rattle.mc_state.specs.State.{State}
 use Rattle.mc_state.specs.Terms.{plain}
-use Rattle.mc_cover.specs.First.{Choice, first_cover, first_seg_cover}
+use Rattle.mc_cover.specs.First.{first_cover, first_seg_cover}
 use Rattle.mc_joins.specs.Joinings.{Half, Joining, Pair, across, half, of_side, free_edges}
 use Rattle.mc_joins.specs.Parts.{Basis, Part, Named, nodes_of_args, standing_args, guessed, with_partners, ended_part}
 use Rattle.mc_joins.specs.Steps.{four_args}
@@ -18,6 +18,7 @@ use Rattle.mc_replay.specs.declared.folds.Part.{Part as KeptPart}
 use Rattle.mc_replay.specs.declared.folds.IndFold.{IndFold as KeptInd}
 use Rattle.mc_replay.specs.declared.folds.SegFold.{SegFold as KeptSeg}
 use Rattle.mc_replay.specs.declared.joining.Joining.{Joining as Kept}
+use Rattle.mc_replay.specs.Covers.{edges_of}
 use Rattle.mc_replay.specs.Good.{AreGood}
 use Rattle.mc_replay.specs.Joined.{seen}
 use Rattle.mc_replay.specs.Named.{TellsFrom}
@@ -47,18 +48,18 @@ seen_ind f = record { args = f.args.items; used = f.used.items }
 abbrev pub seen_seg : KeptSeg → SegFound
 seen_seg f = record { args = f.args.items; stop = f.stop; ends = f.ends.items; used = f.used.items }
 
--- the edges that a choice uses, with arguments
-abbrev pub ind_with : List Term → Choice → IndFound
-ind_with args c = record { args = args; used = c.used }
+-- edges with arguments
+abbrev pub ind_with : List Term → List EdgeId → IndFound
+ind_with args used = record { args = args; used = used }
 
-abbrev pub seg_with : List Term → NodeId → List Term → Choice → SegFound
-seg_with args stop ends c = record { args = args; stop = stop; ends = ends; used = c.used }
+abbrev pub seg_with : List Term → NodeId → List Term → List EdgeId → SegFound
+seg_with args stop ends used = record { args = args; stop = stop; ends = ends; used = used }
 
 -- the free edges that make an Ind with these arguments
 abbrev pub ind_fold : Basis → Joining → Side → Pair → PredId → List Term → Option IndFound
 ind_fold w j side p pred args =
     option_map (ind_with args)
-    (first_cover (w.know (half j side).state) w.defs pred (plain (of_side side p)) args (free_edges j side p))
+    (edges_of (first_cover (w.know (half j side).state) w.defs pred (plain (of_side side p)) args (free_edges j side p)))
 
 -- with guessed arguments
 abbrev pub guessed_ind_fold : Basis → Joining → Side → Pair → PredId → Option IndFound
@@ -72,7 +73,7 @@ ind_fold_for w j side p pred i = ind_fold w j (across side) p pred (four_args w 
 abbrev pub seg_fold_with : Basis → Joining → Side → Pair → PredId → List Term → NodeId → List Term → Option SegFound
 seg_fold_with w j side p pred args stop ends =
     option_map (seg_with args stop ends)
-    (first_seg_cover (w.know (half j side).state) w.defs pred (plain (of_side side p)) args (plain stop) ends (free_edges j side p))
+    (edges_of (first_seg_cover (w.know (half j side).state) w.defs pred (plain (of_side side p)) args (plain stop) ends (free_edges j side p)))
 
 -- the arguments are guessed with that end as stop
 abbrev pub seg_fold : Basis → Joining → Side → Pair → PredId → NodeId → List Term → Option SegFound

@@ -6,7 +6,7 @@ ghost use Rattle.mc_state.specs.Named.{IndParts};
 ghost use Rattle.mc_state.specs.Terms.{plain};
 ghost use Rattle.mc_joins.specs.Joinings.{Half as HalfSeen, across, half};
 ghost use Rattle.mc_joins.specs.Parts.{Basis, as_it_is, empty_seg, guessed, standing_args, nodes_of_args};
-ghost use Rattle.mc_replay.specs.Folds.{OnlyNames, seen_part, seen_ind, seen_seg, made_ind, made_seg};
+ghost use Rattle.mc_replay.specs.Folds.{OnlyNames, seen_part, seen_ind, seen_seg, ind_with, seg_with, made_ind, made_seg};
 ghost use Rattle.mc_replay.specs.Folds.{ind_fold, guessed_ind_fold, ind_fold_for, seg_fold, standing_ends, partner_ends};
 ghost use Rattle.mc_replay.specs.Good.{AreGood};
 ghost use Rattle.mc_replay.specs.Joined.{seen, seen_half};
@@ -156,6 +156,36 @@ fn guessed_to(
     )
 }
 
+/// Edges that make an Ind, if there are any, with its arguments.
+fn ind_with(args: Vec<Term>, used: Option<Vec<EdgeId>>) -> Option<IndFold>
+    ensures { option_map seen_ind result ≡ option_map (ind_with args.items) (option_map (λ ids. ids.items) used) }
+{
+    match used {
+        Some(used) => Some(IndFold { args, used }),
+        None => None,
+    }
+}
+
+/// Edges that make a Seg, if there are any, with its arguments, its end and its arguments there.
+fn seg_with(
+    args: Vec<Term>,
+    stop: NodeId,
+    ends: Vec<Term>,
+    used: Option<Vec<EdgeId>>,
+) -> Option<SegFold>
+    ensures { option_map seen_seg result ≡ option_map (seg_with args.items stop ends.items) (option_map (λ ids. ids.items) used) }
+{
+    match used {
+        Some(used) => Some(SegFold {
+            args,
+            stop,
+            ends,
+            used,
+        }),
+        None => None,
+    }
+}
+
 /// The fold of a side's free edges into an Ind with these arguments.
 fn ind_fold(
     alloc: Global,
@@ -172,7 +202,7 @@ fn ind_fold(
 {
     let blocked = join.blocked(alloc, side, pair)?;
     let half = join.half(side);
-    match cover_edges(
+    let used = cover_edges(
         alloc,
         &half.state,
         defs,
@@ -180,10 +210,8 @@ fn ind_fold(
         pred,
         of_side(side, pair),
         args.as_slice(),
-    )? {
-        Some(used) => Ok(Some(IndFold { args, used })),
-        None => Ok(None),
-    }
+    )?;
+    Ok(ind_with(args, used))
 }
 
 /// The fold of a side's free edges into an Ind with guessed arguments.
@@ -244,7 +272,7 @@ fn seg_fold(
     let at = of_side(side, pair);
     let args = guessed_to(alloc, half, defs, pred, at, end, ends.as_slice())?;
     let blocked = join.blocked(alloc, side, pair)?;
-    match seg_edges(
+    let used = seg_edges(
         alloc,
         &half.state,
         defs,
@@ -254,15 +282,8 @@ fn seg_fold(
         args.as_slice(),
         end,
         ends.as_slice(),
-    )? {
-        Some(used) => Ok(Some(SegFold {
-            args,
-            stop: end,
-            ends,
-            used,
-        })),
-        None => Ok(None),
-    }
+    )?;
+    Ok(seg_with(args, end, ends, used))
 }
 
 /// The fold of a side's free edges into a Seg to another pair's node, where the end arguments are those of an edge there.
