@@ -3,3 +3,4 @@ pub mod NamedLemmas
 pub mod Pairing
 pub mod StepLists
 pub mod FoldLemmas
+pub mod StepLemmas
