@@ -1,6 +1,5 @@
 // What a side gives to a step: an edge as it is, edges that are folded, or an empty segment.
-ghost use Rattle.std.specs.Prelude.{◌≡◌, ◌∷◌, [], Some, None, IfOk, OnOk, is_some, map, option_map, List};
-ghost use Rattle.mc_base.specs.declared.ids.NodeId.{NodeId as Node};
+ghost use Rattle.std.specs.Prelude.{◌≡◌, Some, None, IfOk, OnOk, is_some, option_map};
 ghost use Rattle.mc_state.specs.declared.graph.edge.Edge.TheVariants.{Seg};
 ghost use Rattle.mc_state.specs.Named.{IndParts};
 ghost use Rattle.mc_state.specs.Terms.{plain};
