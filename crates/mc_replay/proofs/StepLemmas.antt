@@ -2,14 +2,14 @@
 use Rattle.std.proofs.Common.{◌≡◌, Bool, true, false, List, [], ◌∷◌, ◌++◌, Option, Some, None, map, length, slice_get, refl, sym, ap, ap₂, subst, ◌∙◌}
 use Rattle.std.specs.Prelude.{◌==◌, ◌&&◌, ◌||◌, not, is_some, is_none, option_map, option_and_then, if◌then◌else◌}
 use Rattle.std.specs.List.{list_any, list_all}
-use Rattle.std.specs.Option.{option_or}
+use Rattle.std.specs.Option.{option_or, option_zip}
 use Rattle.mc_base.specs.declared.ids.EdgeId.{EdgeId}
 use Rattle.mc_base.specs.declared.ids.NodeId.{NodeId}
 use Rattle.mc_base.specs.declared.ids.PredId.{PredId}
 use Rattle.mc_state.specs.declared.graph.edge.Edge.{Edge}
 use Rattle.mc_state.specs.declared.graph.edge.Edge.TheVariants.{Block, Ind, Seg}
-use Rattle.mc_state.specs.Graph.Graph.{Edges}
-use Rattle.mc_state.specs.Named.{IndParts, SegParts, ind_of, seg_of, others, without}
+use Rattle.mc_state.specs.Graph.Graph.{Edges, without}
+use Rattle.mc_state.specs.Named.{IndParts, SegParts, ind_of, seg_of, others}
 use Rattle.mc_state.specs.declared.line.JoinStep.{JoinStep}
 use Rattle.mc_state.specs.declared.line.JoinStep.TheVariants.{J1, J2, J3, J4, J5, J6, J7}
 use Rattle.mc_state.specs.declared.line.Side.{Side}
@@ -19,7 +19,7 @@ use Rattle.mc_pure_ops.specs.Join.Joint.{Pairs}
 use Rattle.mc_joins.specs.Joinings.{Half, Joining, Pair, across, half, of_side, with_pairs, edge_at, next_pair}
 use Rattle.mc_joins.specs.Parts.{Basis, Named, Part, nodes_of_args, ended_part, as_it_is, empty_seg, folded_ind, guessed_seg}
 use Rattle.mc_joins.specs.Steps.{Ending, pairs_of, edge_for, half_after, joined, joined_from, is_ind, edge_there, only_if, closing, may_end, uses_edge, six_with, six_to, six_ends, by_j6, is_seg_to, seven_ends, seven_with, seven_from, by_j7, no_j6, no_j7, by_both, are_blocks, are_inds, are_segs, four_args, four_with, four_from, by_ind, by_folds, step_at, all_steps, after_step, is_stuck, predicates, endings}
-use Rattle.mc_joins.proofs.Keeping.{map_some, bind_each}
+use Rattle.mc_replay.specs.declared.joining.Half.{Half as KeptHalf}
 use Rattle.mc_replay.specs.declared.joining.Joining.{Joining as Kept}
 use Rattle.mc_replay.specs.declared.folds.Part.{Part as KeptPart}
 use Rattle.mc_replay.specs.declared.folds.SegFold.{SegFold as KeptSeg}
@@ -30,8 +30,8 @@ use Rattle.mc_replay.specs.Folds.{IndFound, SegFound, OnlyNames, seen_part, seen
 use Rattle.mc_replay.specs.Joined.{seen, seen_half}
 use Rattle.mc_replay.specs.Named.{TellsFrom, nodes_of_both}
 use Rattle.mc_replay.specs.Steps.{TellsBoth, both_joined, has_both, by_seg, has_seg, ends_to, are_pointers, closed_by, seg_joined, seg_found, is_seg, by_either, four_joined, has_fold, gives_way, by_step, has_step}
-use Rattle.mc_replay.proofs.FoldLemmas.{ind_bridge, seg_bridge}
-use Rattle.mc_replay.proofs.StepLists.{any_map, any_two, any_seg, all_none}
+use Rattle.mc_replay.proofs.FoldLemmas.{ind_bridge, seg_bridge, joined_from_anew, other_stays, tells_both}
+use Rattle.mc_replay.proofs.StepLists.{any_map, any_two, any_seg, all_none, not_twice}
 use Rattle.std.proofs.lemmas.List.Folds.{list_any-append}
 
 -- ---- options and tests
@@ -39,15 +39,18 @@ use Rattle.std.proofs.lemmas.List.Folds.{list_any-append}
 pub same_some : {X : Type 0} {x y : X} → Some x ≡ Some y → x ≡ y
 same_some e = cc
 
+map_some : {X Y : Type 0} (f : X → Y) (o : Option X) (y : Y) → option_map f o ≡ Some y → (x : X) × (o ≡ Some x) × (f x ≡ y)
+map_some f None y e = absurd (cc e)
+map_some f (Some x) y e = (x, refl, same_some e)
+
+then_each : {X Y : Type 0} (f g : X → Option Y) → ((x : X) → f x ≡ g x) → (o : Option X) → option_and_then f o ≡ option_and_then g o
+then_each f g h None = refl
+then_each f g h (Some x) = h x
+
 then_then : {X Y Z : Type 0} (g : Y → Option Z) (f : X → Option Y) (o : Option X)
     → option_and_then g (option_and_then f o) ≡ option_and_then (λ x. option_and_then g (f x)) o
 then_then g f None = refl
 then_then g f (Some x) = refl
-
-map_then : {X Y Z : Type 0} (g : Y → Z) (f : X → Option Y) (o : Option X)
-    → option_map g (option_and_then f o) ≡ option_and_then (λ x. option_map g (f x)) o
-map_then g f None = refl
-map_then g f (Some x) = refl
 
 is_map : {X Y : Type 0} (f : X → Y) (o : Option X) → is_some (option_map f o) ≡ is_some o
 is_map f None = refl
@@ -57,9 +60,9 @@ none_there : {X : Type 0} (o : Option X) → is_some o ≡ false → is_none o �
 none_there None e = refl
 none_there (Some x) e = absurd (cc e)
 
-not_twice : (b : Bool) → b ≡ not (not b)
-not_twice true = refl
-not_twice false = refl
+pub same_map : {X : Type 0} (o : Option X) → o ≡ option_map (λ x. x) o
+same_map None = refl
+same_map (Some x) = refl
 
 four_true : (a b c d : Bool) → (a && b) ≡ true → (c && d) ≡ true → (a && b && c && d) ≡ true
 four_true true true true true e f = refl
@@ -133,17 +136,14 @@ inds_join : (j : Joining) (side : Side) (mine theirs : Part) → is_ind mine.edg
 inds_join j Left mine theirs m t = joins_made j mine theirs ∙ inds_make _ mine.edge theirs.edge m t
 inds_join j Right mine theirs m t = joins_made j theirs mine ∙ inds_make _ theirs.edge mine.edge t m
 
+-- both sides' edges as they are
+pub both_at : (of_form : Edge → Edge → Bool) (j : Joining) (p : Pair) (l r : EdgeId × Edge) → edge_at j Left p ≡ Some l → edge_at j Right p ≡ Some r → of_form l.1 r.1 ≡ true
+    → by_both of_form j p ≡ joined j (as_it_is j.left l) (as_it_is j.right r)
+both_at of_form j p l r left right is =
+    ap₂ (λ (x y : Option (EdgeId × Edge)). option_and_then (λ both. only_if (of_form both.0.1 both.1.1) (joined j (as_it_is j.left both.0) (as_it_is j.right both.1))) (option_zip x y)) left right
+    ∙ ap (λ (b : Bool). only_if b (joined j (as_it_is j.left l) (as_it_is j.right r))) is
+
 -- ---- where nodes were named in one state
-
-from_with : (named side : Side) (s : State) (j : Joining) (mine theirs : Part) → joined_from (with_state named s j) side mine theirs ≡ joined_from j side mine theirs
-from_with Left Left s j mine theirs = refl
-from_with Left Right s j mine theirs = refl
-from_with Right Left s j mine theirs = refl
-from_with Right Right s j mine theirs = refl
-
-other_with : (side : Side) (s : State) (j : Joining) → half (with_state side s j) (across side) ≡ half j (across side)
-other_with Left s j = refl
-other_with Right s j = refl
 
 pub tells_side : (w : Basis) (j : Kept) (side : Side) → TellsBoth w j → TellsFrom w (half (seen j) side).state
 tells_side w j Left t = t.left
@@ -157,18 +157,13 @@ tells_kept w old new l r t =
 module _ (side : Side) (old new : Kept) (names : OnlyNames side old new) where
   pub same_from : (at : Side) (mine theirs : Part) → joined_from (seen new) at mine theirs ≡ joined_from (seen old) at mine theirs
   same_from at mine theirs =
-      ap (λ (z : Joining). joined_from z at mine theirs) names.rest ∙ from_with side at (half (seen new) side).state (seen old) mine theirs
+      ap (λ (z : Joining). joined_from z at mine theirs) names.rest ∙ joined_from_anew side (half (seen new) side).state (seen old) at mine theirs
 
   pub same_other : (half (seen new) (across side)).state ≡ (half (seen old) (across side)).state
-  same_other =
-      ap (λ (z : Joining). (half z (across side)).state) names.rest
-      ∙ ap (λ (h : Half). h.state) (other_with side (half (seen new) side).state (seen old))
+  same_other = ap (λ (h : Half). h.state) (other_stays side old new names)
 
-pub tells_named : (w : Basis) (side : Side) (old new : Kept) → OnlyNames side old new → TellsBoth w old → TellsBoth w new
-tells_named w Left old new names t =
-    record { left = names.tells w t.left; right = subst (λ (s : State). TellsFrom w s) (sym (same_other Left old new names)) t.right }
-tells_named w Right old new names t =
-    record { left = subst (λ (s : State). TellsFrom w s) (sym (same_other Right old new names)) t.left; right = names.tells w t.right }
+  pub tells_named : (w : Basis) → TellsBoth w old → TellsBoth w new
+  tells_named w t = let both = tells_both side old new names w t.left t.right in record { left = both.0; right = both.1 }
 
 -- ---- folds into a Seg
 
@@ -233,7 +228,7 @@ module _ (w : Basis) (j : Joining) (e : Ending) (p : Pair) where
           ∙ (ap (λ (b : Bool). only_if b (option_and_then (six_with w j p e) (guessed_seg w j e.side p e.pred (of_side e.side q) (six_ends w j e q)))) may
           ∙ (ap (option_and_then (six_with w j p e)) (seg_bridge w j e.side p e.pred (of_side e.side q) (six_ends w j e q))
           ∙ (then_then (six_with w j p e) (made_seg w j e.side p e.pred) (seg_fold w j e.side p e.pred (of_side e.side q) (six_ends w j e q))
-          ∙ bind_each (λ f. option_and_then (six_with w j p e) (made_seg w j e.side p e.pred f)) six_then (seg_fold w j e.side p e.pred (of_side e.side q) (six_ends w j e q)) (λ f is. six_made empty f))))
+          ∙ then_each (λ f. option_and_then (six_with w j p e) (made_seg w j e.side p e.pred f)) six_then (λ f. six_made empty f) (seg_fold w j e.side p e.pred (of_side e.side q) (six_ends w j e q)))))
 
       pub six_none : seg_fold w j e.side p e.pred (of_side e.side q) (six_ends w j e q) ≡ None → by_j6 w j p e ≡ None
       six_none is = six_at ∙ ap (option_and_then six_then) is
@@ -277,6 +272,17 @@ module _ (w : Basis) (j : Joining) (e : Ending) (p : Pair) where
           ∙ (then_then (with_other their_seg) (made_seg w j e.side p e.pred) (seg_fold w j e.side p e.pred (of_side e.side q) (seven_ends w j e q s.0))
           ∙ ap (option_and_then (seg_with their_seg))
           (ap (λ (ns : List NodeId). seg_fold w j e.side p e.pred (of_side e.side q) (partner_ends w j e.side e.pred (of_side e.side q) ns)) s.3 ∙ sym is))))))
+
+-- the empty segment, as code makes it
+pub empty_made : (w : Basis) (j : Joining) (e : Ending) (p : Pair) (h : KeptHalf) (other : Side) (at : NodeId) (part : KeptPart)
+    → other ≡ across e.side → seen_half h ≡ half j other → at ≡ of_side other p
+    → seen_part h.state part ≡ empty_seg w (seen_half h) e.pred at → seen_part (half j (across e.side)).state part ≡ empty w j e p
+empty_made w j e p h other at part across_is half_is at_is made =
+    let same : seen_half h ≡ half j (across e.side) = half_is ∙ ap (half j) across_is in
+    ap (λ (x : Half). seen_part x.state part) (sym same)
+    ∙ (made
+    ∙ (ap (λ (x : Half). empty_seg w x e.pred at) same
+    ∙ ap (λ (n : NodeId). empty_seg w (half j (across e.side)) e.pred n) (at_is ∙ ap (λ (s : Side). of_side s p) across_is)))
 
 -- what is named and put is what comes of the step
 module _ (w : Basis) (old mid new : Kept) (e : Ending) (p : Pair) (fold : KeptSeg) (theirs : KeptPart) (names : OnlyNames e.side old mid) where
@@ -323,13 +329,14 @@ module _ (w : Basis) (j : Joining) (p : Pair) (pred : PredId) (side : Side) wher
         ∙ (then_then (with_mine my_ind) (made_ind w j (across side) p pred) (ind_fold_for w j side p pred i.0)
         ∙ ap (option_and_then (ind_with my_ind)) (sym (is i.0 i.2))))))
 
-    ind_there : (edge : Edge) (i : IndParts) → ind_of pred (Some edge) ≡ Some i → is_ind edge ≡ true
-    ind_there (Block a shape fields) i is = absurd (cc is)
-    ind_there (Ind a own args) i is = refl
-    ind_there (Seg a args own stop stops) i is = absurd (cc is)
+-- an edge with arguments of an Ind is an Ind
+ind_there : (pred : PredId) (edge : Edge) (i : IndParts) → ind_of pred (Some edge) ≡ Some i → is_ind edge ≡ true
+ind_there pred (Block a shape fields) i is = absurd (cc is)
+ind_there pred (Ind a own args) i is = refl
+ind_there pred (Seg a args own stop stops) i is = absurd (cc is)
 
-    pub gives_ind : is_ind entry.1 ≡ true
-    gives_ind = let i = map_some (λ (i : IndParts). i.args) (ind_of pred (Some entry.1)) args to in ind_there entry.1 i.0 i.1
+pub gives_ind : (pred : PredId) (edge : Edge) (args : List NodeId) → option_map (λ (i : IndParts). i.args) (ind_of pred (Some edge)) ≡ Some args → is_ind edge ≡ true
+gives_ind pred edge args to = let i = map_some (λ (i : IndParts). i.args) (ind_of pred (Some edge)) args to in ind_there pred edge i.0 i.1
 
 module _ (w : Basis) (old mid : Kept) (p : Pair) (pred : PredId) (f : OtherFold) (names : OnlyNames (across f.side) old mid) where
   across_twice : (side : Side) → across (across side) ≡ side
@@ -340,17 +347,28 @@ module _ (w : Basis) (old mid : Kept) (p : Pair) (pred : PredId) (f : OtherFold)
   same_mine =
       subst (λ (s : Side). (half (seen mid) s).state ≡ (half (seen old) s).state) (across_twice f.side) (same_other (across f.side) old mid names)
 
-  pub four_put : (theirs : KeptPart) (to : Option Joining)
+  four_at_other : (theirs : KeptPart) (to : Option Joining)
       → Some (seen_part (half (seen mid) (across f.side)).state theirs) ≡ made_ind w (seen old) (across f.side) p pred (seen_ind f.fold)
       → joined_from (seen mid) f.side (seen_part (half (seen mid) f.side).state f.mine) (seen_part (half (seen mid) (across f.side)).state theirs) ≡ to
       → four_joined w (seen old) p pred f ≡ to
-  four_put theirs to made put =
+  four_at_other theirs to made put =
       ap (option_and_then (λ x. joined_from (seen old) f.side (seen_part (half (seen old) f.side).state f.mine) x)) (sym made)
       ∙ (ap (λ (s : State). joined_from (seen old) f.side (seen_part s f.mine) (seen_part (half (seen mid) (across f.side)).state theirs)) (sym same_mine)
       ∙ (sym (same_from (across f.side) old mid names f.side (seen_part (half (seen mid) f.side).state f.mine) (seen_part (half (seen mid) (across f.side)).state theirs)) ∙ put))
 
-  pub four_unmade : None ≡ made_ind w (seen old) (across f.side) p pred (seen_ind f.fold) → four_joined w (seen old) p pred f ≡ None
-  four_unmade made = ap (option_and_then (λ x. joined_from (seen old) f.side (seen_part (half (seen old) f.side).state f.mine) x)) (sym made)
+module _ (w : Basis) (old mid : Kept) (p : Pair) (pred : PredId) (f : OtherFold) (other : Side) (is : other ≡ across f.side) where
+  pub four_put : (theirs : KeptPart) (to : Option Joining) → OnlyNames other old mid
+      → Some (seen_part (half (seen mid) other).state theirs) ≡ made_ind w (seen old) other p pred (seen_ind f.fold)
+      → joined_from (seen mid) f.side (seen_part (half (seen mid) f.side).state f.mine) (seen_part (half (seen mid) (across f.side)).state theirs) ≡ to
+      → four_joined w (seen old) p pred f ≡ to
+  four_put theirs to names made put =
+      four_at_other w old mid p pred f (subst (λ (o : Side). OnlyNames o old mid) is names) theirs to
+      (subst (λ (o : Side). Some (seen_part (half (seen mid) o).state theirs) ≡ made_ind w (seen old) o p pred (seen_ind f.fold)) is made) put
+
+  pub four_unmade : None ≡ made_ind w (seen old) other p pred (seen_ind f.fold) → four_joined w (seen old) p pred f ≡ None
+  four_unmade made =
+      ap (option_and_then (λ x. joined_from (seen old) f.side (seen_part (half (seen old) f.side).state f.mine) x))
+      (sym (subst (λ (o : Side). None ≡ made_ind w (seen old) o p pred (seen_ind f.fold)) is made))
 
 -- ---- all steps
 

@@ -95,10 +95,10 @@ module _ (test : Ending → Bool) (j : Joining) where
 pub any_pred : (w : Basis) (test : PredId → Bool) → list_any test (predicates w) ≡ list_any (λ i. test (pred_of i)) (range_with_len 0 (length w.defs))
 any_pred w test = any_map test pred_of (range_with_len 0 (length w.defs))
 
+pub not_twice : (b : Bool) → b ≡ not (not b)
+not_twice true = refl
+not_twice false = refl
+
 pub any_seg : (step : SegStep) (w : Basis) (j : Joining) (p : Pair) → list_any (has_seg step w j p) (endings w j) ≡ not (no_seg step w j p)
 any_seg Six w j p = not_twice (list_any (has_seg Six w j p) (endings w j)) ∙ ap not (sym (all_none (by_j6 w j p) (endings w j)))
 any_seg Seven w j p = not_twice (list_any (has_seg Seven w j p) (endings w j)) ∙ ap not (sym (all_none (by_j7 w j p) (endings w j)))
-
-not_twice : (b : Bool) → b ≡ not (not b)
-not_twice true = refl
-not_twice false = refl
