@@ -1,6 +1,6 @@
 -- Steps: what is found, named and joined.
-use Rattle.std.proofs.Common.{◌≡◌, Bool, true, false, List, [], ◌∷◌, ◌++◌, Option, Some, None, map, length, slice_get, refl, sym, ap, ap₂, subst, ◌∙◌}
-use Rattle.std.specs.Prelude.{◌==◌, ◌&&◌, ◌||◌, not, is_some, is_none, option_map, option_and_then, if◌then◌else◌}
+use Rattle.std.proofs.Common.{◌≡◌, Bool, true, false, List, [], ◌∷◌, ◌++◌, Option, Some, None, Ok, Err, IfOk, map, length, slice_get, refl, sym, ap, ap₂, subst, ◌∙◌}
+use Rattle.std.specs.Prelude.{Result, ◌==◌, ◌&&◌, ◌||◌, not, is_some, is_none, option_map, option_and_then, if◌then◌else◌}
 use Rattle.std.specs.List.{list_any, list_all}
 use Rattle.std.specs.Option.{option_or, option_zip}
 use Rattle.mc_base.specs.declared.ids.EdgeId.{EdgeId}
@@ -29,7 +29,7 @@ use Rattle.mc_replay.specs.declared.steps.SegStep.TheVariants.{Six, Seven}
 use Rattle.mc_replay.specs.Folds.{IndFound, SegFound, OnlyNames, seen_part, seen_ind, seen_seg, ind_fold_for, seg_fold, standing_ends, partner_ends, made_ind, made_seg, named_ind, with_state}
 use Rattle.mc_replay.specs.Joined.{seen, seen_half}
 use Rattle.mc_replay.specs.Named.{TellsFrom, nodes_of_both}
-use Rattle.mc_replay.specs.Steps.{TellsBoth, both_joined, has_both, by_seg, has_seg, ends_to, are_pointers, closed_by, seg_joined, seg_found, is_seg, by_either, four_joined, has_fold, gives_way, by_step, has_step}
+use Rattle.mc_replay.specs.Steps.{TellsBoth, both_joined, has_both, by_seg, has_seg, ends_to, are_pointers, closed_by, seg_joined, seg_found, is_seg, GivesSeg, by_either, four_joined, GivesInd, has_fold, gives_way, by_step, has_step}
 use Rattle.mc_replay.proofs.FoldLemmas.{ind_bridge, seg_bridge, joined_from_anew, other_stays, tells_both}
 use Rattle.mc_replay.proofs.StepLists.{any_map, any_two, any_seg, all_none, not_twice}
 use Rattle.std.proofs.lemmas.List.Folds.{list_any-append}
@@ -55,6 +55,11 @@ then_then g f (Some x) = refl
 is_map : {X Y : Type 0} (f : X → Y) (o : Option X) → is_some (option_map f o) ≡ is_some o
 is_map f None = refl
 is_map f (Some x) = refl
+
+-- what holds of every good answer
+pub if_ok_all : {X E : Type 0} {P Q R S : X → Type 0} → (r : Result X E) → ((x : X) → P x → Q x → R x → S x) → IfOk r P → IfOk r Q → IfOk r R → IfOk r S
+if_ok_all (Ok x) f p q r = f x p q r
+if_ok_all (Err e) f p q r = tt
 
 none_there : {X : Type 0} (o : Option X) → is_some o ≡ false → is_none o ≡ true
 none_there None e = refl
@@ -273,6 +278,20 @@ module _ (w : Basis) (j : Joining) (e : Ending) (p : Pair) where
           ∙ ap (option_and_then (seg_with their_seg))
           (ap (λ (ns : List NodeId). seg_fold w j e.side p e.pred (of_side e.side q) (partner_ends w j e.side e.pred (of_side e.side q) ns)) s.3 ∙ sym is))))))
 
+-- the step applies where what was found can be named
+pub seg_has : (step : SegStep) (w : Basis) (j : Joining) (e : Ending) (p : Pair) (found : Option (KeptSeg × KeptPart)) (f : KeptSeg × KeptPart) → found ≡ Some f
+    → GivesSeg found → by_seg step w j p e ≡ seg_found step w j e p found
+    → has_seg step w j p e ≡ is_some (nodes_of_both w e.pred (half j e.side).state f.0.args.items f.0.ends.items)
+seg_has step w j e p found f is gives by =
+    ap (λ (o : Option Joining). is_some o) (by ∙ ap (λ (o : Option (KeptSeg × KeptPart)). seg_found step w j e p o) is)
+    ∙ (is_map (closed_by step e.side p) (seg_joined w j e p f) ∙ seg_applies w j e p (seen_part (half j (across e.side)).state f.1) (seen_seg f.0) (gives f is))
+
+-- an edge with end arguments of a Seg is a Seg
+pub ends_seg : (pred : PredId) (stop : NodeId) (edge : Edge) (ends : List NodeId) → ends_to pred stop edge ≡ Some ends → is_seg edge ≡ true
+ends_seg pred stop (Block a shape fields) ends is = absurd (cc is)
+ends_seg pred stop (Ind a own args) ends is = absurd (cc is)
+ends_seg pred stop (Seg a args own last stops) ends is = refl
+
 -- the empty segment, as code makes it
 pub empty_made : (w : Basis) (j : Joining) (e : Ending) (p : Pair) (h : KeptHalf) (other : Side) (at : NodeId) (part : KeptPart)
     → other ≡ across e.side → seen_half h ≡ half j other → at ≡ of_side other p
@@ -285,7 +304,7 @@ empty_made w j e p h other at part across_is half_is at_is made =
     ∙ ap (λ (n : NodeId). empty_seg w (half j (across e.side)) e.pred n) (at_is ∙ ap (λ (s : Side). of_side s p) across_is)))
 
 -- what is named and put is what comes of the step
-module _ (w : Basis) (old mid new : Kept) (e : Ending) (p : Pair) (fold : KeptSeg) (theirs : KeptPart) (names : OnlyNames e.side old mid) where
+module _ (w : Basis) (old mid : Kept) (e : Ending) (p : Pair) (fold : KeptSeg) (theirs : KeptPart) (names : OnlyNames e.side old mid) where
   pub seg_put : (mine : KeptPart) (to : Option Joining) → Some (seen_part (half (seen mid) e.side).state mine) ≡ made_seg w (seen old) e.side p e.pred (seen_seg fold)
       → joined_from (seen mid) e.side (seen_part (half (seen mid) e.side).state mine) (seen_part (half (seen mid) (across e.side)).state theirs) ≡ to
       → seg_joined w (seen old) e p (fold, theirs) ≡ to
@@ -337,6 +356,14 @@ ind_there pred (Seg a args own stop stops) i is = absurd (cc is)
 
 pub gives_ind : (pred : PredId) (edge : Edge) (args : List NodeId) → option_map (λ (i : IndParts). i.args) (ind_of pred (Some edge)) ≡ Some args → is_ind edge ≡ true
 gives_ind pred edge args to = let i = map_some (λ (i : IndParts). i.args) (ind_of pred (Some edge)) args to in ind_there pred edge i.0 i.1
+
+-- the step applies where what was found can be named
+pub four_has : (w : Basis) (j : Joining) (p : Pair) (pred : PredId) (found : Option OtherFold) (f : OtherFold) → found ≡ Some f → GivesInd found
+    → by_either w j p pred ≡ option_and_then (four_joined w j p pred) found
+    → is_some (by_either w j p pred) ≡ is_some (nodes_of_args w pred (half j (across f.side)).state f.fold.args.items)
+four_has w j p pred found f is gives by =
+    ap (λ (o : Option Joining). is_some o) (by ∙ ap (option_and_then (four_joined w j p pred)) is)
+    ∙ ind_applies w j p pred f.side (seen_part (half j f.side).state f.mine) (seen_ind f.fold) (gives f is)
 
 module _ (w : Basis) (old mid : Kept) (p : Pair) (pred : PredId) (f : OtherFold) (names : OnlyNames (across f.side) old mid) where
   across_twice : (side : Side) → across (across side) ≡ side

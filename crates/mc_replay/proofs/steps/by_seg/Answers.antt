@@ -24,8 +24,8 @@ use Rattle.mc_replay.specs.declared.steps.SegStep.TheVariants.{Six, Seven}
 use Rattle.mc_replay.specs.Folds.{IndFound, SegFound, seen_part, seen_ind, seen_seg, seg_fold, standing_ends, partner_ends}
 use Rattle.mc_replay.specs.Forms.{is_form}
 use Rattle.mc_replay.specs.Joined.{seen}
-use Rattle.mc_replay.specs.Named.{nodes_of_both}
-use Rattle.mc_replay.specs.Steps.{ComesTo, TellsBoth, seen_ending, seg_found, closed_by, ends_to, four_joined, is_seg, by_step, has_seg, endings_on, endings_of, has_fold}
+use Rattle.mc_replay.specs.Named.{TellsFrom, nodes_of_both}
+use Rattle.mc_replay.specs.Steps.{ComesTo, TellsBoth, are_pointers, seen_ending, seg_found, closed_by, ends_to, four_joined, is_seg, by_step, has_seg, endings_on, endings_of, has_fold}
 use Rattle.mc_replay.proofs.FoldLemmas.{if_ok}
 use Rattle.mc_replay.proofs.StepLemmas.{seg_put, seg_unmade, tells_side, tells_named, tells_kept}
 use Rattle.mc_replay.proofs.steps.by_seg.Goals as goal
@@ -57,7 +57,7 @@ returns-then-not-branch-clause-takes c = λ w same t.
     let names = c.in_ok-mine.ensures.only in
     let found = c.in_ok-fold.ensures.joins w same t ∙ ap (λ (o : Option (KeptSeg × KeptPart)). seg_found c.args.step w j e p o) c.in-Some.is in
     let made = c.in_ok-mine.ensures.made w same (tells_side w old c.args.ending.side t) in
-    let put = seg_put w old mid c.put_from.new.join e p c.in-Some.fold c.in-Some.theirs names c.in-Some-2.mine (if c.in_ok-put_from.field-0 then Some (seen c.put_from.new.join) else None)
+    let put = seg_put w old mid e p c.in-Some.fold c.in-Some.theirs names c.in-Some-2.mine (if c.in_ok-put_from.field-0 then Some (seen c.put_from.new.join) else None)
     (sym (ap (option_map (seen_part (half (seen mid) e.side).state)) c.in-Some-2.is) ∙ made) c.in_ok-put_from.ensures.joins in
     let tells = tells_kept w mid c.put_from.new.join c.in_ok-put_from.ensures.left c.in_ok-put_from.ensures.right (tells_named e.side old mid names w t) in
     record {
@@ -77,7 +77,7 @@ returns-clause-takes c = λ w same t.
     let names = c.in_ok-mine.ensures.only in
     let found = c.in_ok-fold.ensures.joins w same t ∙ ap (λ (o : Option (KeptSeg × KeptPart)). seg_found c.args.step w j e p o) c.in-Some.is in
     let made = c.in_ok-mine.ensures.made w same (tells_side w old c.args.ending.side t) in
-    let put = seg_put w old mid c.put_from.new.join e p c.in-Some.fold c.in-Some.theirs names c.in-Some-2.mine (if c.in_ok-put_from.field-0 then Some (seen c.put_from.new.join) else None)
+    let put = seg_put w old mid e p c.in-Some.fold c.in-Some.theirs names c.in-Some-2.mine (if c.in_ok-put_from.field-0 then Some (seen c.put_from.new.join) else None)
     (sym (ap (option_map (seen_part (half (seen mid) e.side).state)) c.in-Some-2.is) ∙ made) c.in_ok-put_from.ensures.joins in
     let tells = tells_kept w mid c.put_from.new.join c.in_ok-put_from.ensures.left c.in_ok-put_from.ensures.right (tells_named e.side old mid names w t) in
     record {

@@ -24,8 +24,8 @@ use Rattle.mc_replay.specs.declared.steps.SegStep.TheVariants.{Six, Seven}
 use Rattle.mc_replay.specs.Folds.{IndFound, SegFound, seen_part, seen_ind, seen_seg, seg_fold, standing_ends, partner_ends}
 use Rattle.mc_replay.specs.Forms.{is_form}
 use Rattle.mc_replay.specs.Joined.{seen}
-use Rattle.mc_replay.specs.Named.{nodes_of_both}
-use Rattle.mc_replay.specs.Steps.{ComesTo, TellsBoth, seen_ending, seg_found, closed_by, ends_to, four_joined, is_seg, by_step, has_seg, endings_on, endings_of, has_fold}
+use Rattle.mc_replay.specs.Named.{TellsFrom, nodes_of_both}
+use Rattle.mc_replay.specs.Steps.{ComesTo, TellsBoth, are_pointers, seen_ending, seg_found, closed_by, ends_to, four_joined, is_seg, by_step, has_seg, endings_on, endings_of, has_fold}
 use Rattle.mc_replay.proofs.FoldLemmas.{if_ok}
 use Rattle.mc_replay.proofs.StepLemmas.{four_at, tells_side, ind_with, same_some, gives_ind}
 use Rattle.mc_replay.proofs.steps.four.Goals as goal

@@ -24,17 +24,41 @@ use Rattle.mc_replay.specs.declared.steps.SegStep.TheVariants.{Six, Seven}
 use Rattle.mc_replay.specs.Folds.{IndFound, SegFound, seen_part, seen_ind, seen_seg, seg_fold, standing_ends, partner_ends}
 use Rattle.mc_replay.specs.Forms.{is_form}
 use Rattle.mc_replay.specs.Joined.{seen}
-use Rattle.mc_replay.specs.Named.{nodes_of_both}
-use Rattle.mc_replay.specs.Steps.{ComesTo, TellsBoth, seen_ending, seg_found, closed_by, ends_to, four_joined, is_seg, by_step, has_seg, endings_on, endings_of, has_fold}
+use Rattle.mc_replay.specs.Named.{TellsFrom, nodes_of_both}
+use Rattle.mc_replay.specs.Steps.{ComesTo, TellsBoth, are_pointers, seen_ending, seg_found, closed_by, ends_to, four_joined, is_seg, by_step, has_seg, endings_on, endings_of, has_fold}
 use Rattle.mc_replay.proofs.FoldLemmas.{if_ok}
 use Rattle.mc_replay.proofs.StepLists.{any_next, any_here, any_end, any_on, any_ending, any_pred, any_seg, ending_on, pred_of}
 use Rattle.mc_replay.proofs.steps.has_any.Goals as goal
 
 pub returns-then-branch : goal.returns-then-branch
-returns-then-branch c = λ w same t. let h = c.loop-pred in ?
+returns-then-branch c = λ w same t.
+    let j = seen c.args.join.now in
+    let test : ℕ → Bool = λ i. list_any (has_seg c.args.step w j c.args.pair.now) (endings_of j (pred_of i)) in
+    let n = length c.args.defs.now in
+    let i = c.loop-pred.pred in
+    let l : i < n = rw c.as_slice-pred-end.ensures.same at c.loop-pred-test.true in
+    sym (sym (any_seg c.args.step w j c.args.pair.now)
+    ∙ (any_ending (has_seg c.args.step w j c.args.pair.now) j w
+    ∙ (any_pred w c.args.defs.now same (λ pred. list_any (has_seg c.args.step w j c.args.pair.now) (endings_of j pred))
+    ∙ (c.loop-pred.invariant w same t ∙ any_here test n i l (sym (c.in_ok-has_either_side.ensures w same t) ∙ c.if-branch.true)))))
 
 pub loop-pred-preserved : goal.loop-pred-preserved
-loop-pred-preserved c = λ w same t. let h = c.if-branch in ?
+loop-pred-preserved c = λ w same t.
+    let j = seen c.args.join.now in
+    let test : ℕ → Bool = λ i. list_any (has_seg c.args.step w j c.args.pair.now) (endings_of j (pred_of i)) in
+    let n = length c.args.defs.now in
+    let i = c.loop-pred.pred in
+    let l : i < n = rw c.as_slice-pred-end.ensures.same at c.loop-pred-test.true in
+    c.loop-pred.invariant w same t ∙ any_next test n i l (sym (c.in_ok-has_either_side.ensures w same t) ∙ c.if-branch.false)
 
 pub returns : goal.returns
-returns c = λ w same t. let h = c.loop-pred-test in ?
+returns c = λ w same t.
+    let j = seen c.args.join.now in
+    let test : ℕ → Bool = λ i. list_any (has_seg c.args.step w j c.args.pair.now) (endings_of j (pred_of i)) in
+    let n = length c.args.defs.now in
+    let i = c.loop-pred.pred in
+    let l : n ≤ i = rw c.as_slice-pred-end.ensures.same at c.loop-pred-test.false in
+    sym (sym (any_seg c.args.step w j c.args.pair.now)
+    ∙ (any_ending (has_seg c.args.step w j c.args.pair.now) j w
+    ∙ (any_pred w c.args.defs.now same (λ pred. list_any (has_seg c.args.step w j c.args.pair.now) (endings_of j pred))
+    ∙ (c.loop-pred.invariant w same t ∙ any_end test n i l))))

@@ -24,12 +24,19 @@ use Rattle.mc_replay.specs.declared.steps.SegStep.TheVariants.{Six, Seven}
 use Rattle.mc_replay.specs.Folds.{IndFound, SegFound, seen_part, seen_ind, seen_seg, seg_fold, standing_ends, partner_ends}
 use Rattle.mc_replay.specs.Forms.{is_form}
 use Rattle.mc_replay.specs.Joined.{seen}
-use Rattle.mc_replay.specs.Named.{nodes_of_both}
-use Rattle.mc_replay.specs.Steps.{ComesTo, TellsBoth, seen_ending, seg_found, closed_by, ends_to, four_joined, is_seg, by_step, has_seg, endings_on, endings_of, has_fold}
+use Rattle.mc_replay.specs.Named.{TellsFrom, nodes_of_both}
+use Rattle.mc_replay.specs.Steps.{ComesTo, TellsBoth, are_pointers, seen_ending, seg_found, closed_by, ends_to, four_joined, is_seg, by_step, has_seg, endings_on, endings_of, has_fold}
 use Rattle.mc_replay.proofs.FoldLemmas.{if_ok}
-use Rattle.mc_replay.proofs.StepLemmas.{ind_applies, tells_side}
+use Rattle.mc_replay.proofs.StepLemmas.{ind_applies, tells_side, four_has}
 use Rattle.mc_replay.proofs.steps.has_four.Goals as goal
 
 pub returns-in-Some : goal.returns-in-Some
 returns-in-Some c =
-    let h = c.in-Some in ?
+    if_ok c.ind_has_nodes.result (λ has h w same t.
+    let j = seen c.args.join.now in
+    let f = c.in-Some.found in
+    let state = ap (λ (x : Half). x.state) c.half.ensures.is ∙ ap (λ (s : Side). (half j s).state) c.across.ensures in
+    h w same (subst (λ (s : State). TellsFrom w s) (sym state) (tells_side w c.args.join.now (across f.side) t))
+    ∙ (ap (λ (s : State). is_some (nodes_of_args w c.args.pred s f.fold.args.items)) state
+    ∙ sym (four_has w j c.args.pair.now c.args.pred c.in_ok-found.field-0 f c.in-Some.is c.in_ok-found.ensures.ind (c.in_ok-found.ensures.joins w same t))))
+    c.ind_has_nodes.ensures

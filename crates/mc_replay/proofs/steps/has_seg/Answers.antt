@@ -24,11 +24,19 @@ use Rattle.mc_replay.specs.declared.steps.SegStep.TheVariants.{Six, Seven}
 use Rattle.mc_replay.specs.Folds.{IndFound, SegFound, seen_part, seen_ind, seen_seg, seg_fold, standing_ends, partner_ends}
 use Rattle.mc_replay.specs.Forms.{is_form}
 use Rattle.mc_replay.specs.Joined.{seen}
-use Rattle.mc_replay.specs.Named.{nodes_of_both}
-use Rattle.mc_replay.specs.Steps.{ComesTo, TellsBoth, seen_ending, seg_found, closed_by, ends_to, four_joined, is_seg, by_step, has_seg, endings_on, endings_of, has_fold}
+use Rattle.mc_replay.specs.Named.{TellsFrom, nodes_of_both}
+use Rattle.mc_replay.specs.Steps.{ComesTo, TellsBoth, are_pointers, seen_ending, seg_found, closed_by, ends_to, four_joined, is_seg, by_step, has_seg, endings_on, endings_of, has_fold}
 use Rattle.mc_replay.proofs.FoldLemmas.{if_ok}
-use Rattle.mc_replay.proofs.StepLemmas.{seg_applies, tells_side}
+use Rattle.mc_replay.proofs.StepLemmas.{seg_applies, tells_side, seg_has}
 use Rattle.mc_replay.proofs.steps.has_seg.Goals as goal
 
 pub returns-in-Some : goal.returns-in-Some
-returns-in-Some c = let h = c.in-Some in ?
+returns-in-Some c =
+    if_ok c.seg_has_nodes.result (λ has h w same t.
+    let j = seen c.args.join.now in
+    let e = seen_ending c.args.ending in
+    let state = ap (λ (x : Half). x.state) c.half.ensures.is in
+    h w same (subst (λ (s : State). TellsFrom w s) (sym state) (tells_side w c.args.join.now c.args.ending.side t))
+    ∙ (ap (λ (s : State). is_some (nodes_of_both w e.pred s c.in-Some.found.0.args.items c.in-Some.found.0.ends.items)) state
+    ∙ sym (seg_has c.args.step w j e c.args.pair.now c.in_ok-found.field-0 c.in-Some.found c.in-Some.is (c.in_ok-found.ensures.seg w same t) (c.in_ok-found.ensures.joins w same t))))
+    c.seg_has_nodes.ensures

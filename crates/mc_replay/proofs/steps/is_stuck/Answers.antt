@@ -24,11 +24,12 @@ use Rattle.mc_replay.specs.declared.steps.SegStep.TheVariants.{Six, Seven}
 use Rattle.mc_replay.specs.Folds.{IndFound, SegFound, seen_part, seen_ind, seen_seg, seg_fold, standing_ends, partner_ends}
 use Rattle.mc_replay.specs.Forms.{is_form}
 use Rattle.mc_replay.specs.Joined.{seen}
-use Rattle.mc_replay.specs.Named.{nodes_of_both}
-use Rattle.mc_replay.specs.Steps.{ComesTo, TellsBoth, seen_ending, seg_found, closed_by, ends_to, four_joined, is_seg, by_step, has_seg, endings_on, endings_of, has_fold}
+use Rattle.mc_replay.specs.Named.{TellsFrom, nodes_of_both}
+use Rattle.mc_replay.specs.Steps.{ComesTo, TellsBoth, are_pointers, seen_ending, seg_found, closed_by, ends_to, four_joined, is_seg, by_step, has_seg, endings_on, endings_of, has_fold}
 use Rattle.mc_replay.proofs.FoldLemmas.{if_ok}
 use Rattle.mc_replay.proofs.StepLemmas.{stuck_is}
 use Rattle.mc_replay.proofs.steps.is_stuck.Goals as goal
 
 pub returns-in_ok-has_step-in-Some : goal.returns-in_ok-has_step-in-Some
-returns-in_ok-has_step-in-Some c = λ w same t. let h = c.in_ok-has_step in ?
+returns-in_ok-has_step-in-Some c = λ w same t.
+    sym (stuck_is w (seen c.args.join.now) c.in-Some.pair (sym c.next_pair.ensures ∙ c.in-Some.is) ∙ ap not (sym (c.in_ok-has_step-in-Some.ensures w same t)))

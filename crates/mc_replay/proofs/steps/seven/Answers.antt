@@ -24,10 +24,10 @@ use Rattle.mc_replay.specs.declared.steps.SegStep.TheVariants.{Six, Seven}
 use Rattle.mc_replay.specs.Folds.{IndFound, SegFound, seen_part, seen_ind, seen_seg, seg_fold, standing_ends, partner_ends}
 use Rattle.mc_replay.specs.Forms.{is_form}
 use Rattle.mc_replay.specs.Joined.{seen}
-use Rattle.mc_replay.specs.Named.{nodes_of_both}
-use Rattle.mc_replay.specs.Steps.{ComesTo, TellsBoth, seen_ending, seg_found, closed_by, ends_to, four_joined, is_seg, by_step, has_seg, endings_on, endings_of, has_fold}
+use Rattle.mc_replay.specs.Named.{TellsFrom, nodes_of_both}
+use Rattle.mc_replay.specs.Steps.{ComesTo, TellsBoth, are_pointers, seen_ending, seg_found, closed_by, ends_to, four_joined, is_seg, by_step, has_seg, endings_on, endings_of, has_fold}
 use Rattle.mc_replay.proofs.FoldLemmas.{if_ok}
-use Rattle.mc_replay.proofs.StepLemmas.{seven_at, seg_with, tells_side, same_some, same_map}
+use Rattle.mc_replay.proofs.StepLemmas.{seven_at, seg_with, tells_side, same_some, same_map, ends_seg}
 use Rattle.mc_replay.proofs.steps.seven.Goals as goal
 
 pub returns-in_default-2-clause-joins : goal.returns-in_default-2-clause-joins
@@ -73,4 +73,8 @@ returns-clause-joins c = λ w same t.
     ∙ same_map (seg_with w j e p (seen_part (half j (across e.side)).state c.in_ok-theirs.theirs) (seen_seg c.in-Some-2.fold))))
 
 pub returns-clause-seg : goal.returns-clause-seg
-returns-clause-seg c = let h = c.in_ok-theirs in ?
+returns-clause-seg c = λ w same t f is.
+    subst (λ (z : KeptSeg × KeptPart). is_seg z.1.edge ≡ true) (same_some is)
+    (ap (λ (x : Part). is_seg x.edge) (c.in_ok-theirs.ensures (half (seen c.args.join.now) (across c.args.ending.side)))
+    ∙ ends_seg c.args.ending.pred c.of_side.result c.in-Some-edge_at.entry.now.1 c.in-Some-ends_to.others.now
+    (sym c.ends_to.ensures ∙ ap (λ (o : Option (Bor (List NodeId))). option_copied o) c.in-Some-ends_to.is))

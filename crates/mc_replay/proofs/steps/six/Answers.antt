@@ -24,8 +24,8 @@ use Rattle.mc_replay.specs.declared.steps.SegStep.TheVariants.{Six, Seven}
 use Rattle.mc_replay.specs.Folds.{IndFound, SegFound, seen_part, seen_ind, seen_seg, seg_fold, standing_ends, partner_ends}
 use Rattle.mc_replay.specs.Forms.{is_form}
 use Rattle.mc_replay.specs.Joined.{seen}
-use Rattle.mc_replay.specs.Named.{nodes_of_both}
-use Rattle.mc_replay.specs.Steps.{ComesTo, TellsBoth, seen_ending, seg_found, closed_by, ends_to, four_joined, is_seg, by_step, has_seg, endings_on, endings_of, has_fold}
+use Rattle.mc_replay.specs.Named.{TellsFrom, nodes_of_both}
+use Rattle.mc_replay.specs.Steps.{ComesTo, TellsBoth, are_pointers, seen_ending, seg_found, closed_by, ends_to, four_joined, is_seg, by_step, has_seg, endings_on, endings_of, has_fold}
 use Rattle.mc_replay.proofs.FoldLemmas.{if_ok}
 use Rattle.mc_replay.proofs.StepLemmas.{six_none, six_empty, six_some, seg_with, empty_made, tells_side, same_some}
 use Rattle.mc_replay.proofs.steps.six.Goals as goal
@@ -50,7 +50,7 @@ returns-then-is_empty-clause-joins c = λ w same t.
     c.in_ok-fold.ensures w same (tells_side w c.args.join.now c.args.ending.side t)
     ∙ ap (λ (n : NodeId). seg_fold w j e.side c.args.pair.now e.pred n (standing_ends w j e.side e.pred n)) c.of_side-stop.ensures in
     six_empty w j e c.args.pair.now c.in-Some.end there (sym c.may_end.ensures ∙ c.if-not-may_end.false) (seen_seg c.in-Some-2.fold)
-    (sym found ∙ ap (option_map seen_seg) c.in-Some-2.is) (let h = c.is_empty in ?)
+    (sym found ∙ ap (option_map seen_seg) c.in-Some-2.is) (ap (λ (n : ℕ). n == 0) (sym c.in-Some-2.fold.used.ok.0) ∙ (sym c.is_empty.ensures ∙ c.if-is_empty.true))
 
 pub returns-clause-joins : goal.returns-clause-joins
 returns-clause-joins c = λ w same t.
@@ -60,11 +60,14 @@ returns-clause-joins c = λ w same t.
     let found : option_map seen_seg c.in_ok-fold.field-0 ≡ seg_fold w j e.side c.args.pair.now e.pred (of_side e.side c.in-Some.end) (standing_ends w j e.side e.pred (of_side e.side c.in-Some.end)) =
     c.in_ok-fold.ensures w same (tells_side w c.args.join.now c.args.ending.side t)
     ∙ ap (λ (n : NodeId). seg_fold w j e.side c.args.pair.now e.pred n (standing_ends w j e.side e.pred n)) c.of_side-stop.ensures in
+    let other_tells = subst (λ (s : State). TellsFrom w s) (ap (λ (h : Half). h.state) (sym c.half.ensures.is)) (tells_side w c.args.join.now c.across-other.result t) in
     six_some w j e c.args.pair.now c.in-Some.end there (sym c.may_end.ensures ∙ c.if-not-may_end.false) (seen_seg c.in-Some-2.fold)
-    (sym found ∙ ap (option_map seen_seg) c.in-Some-2.is) ?
+    (sym found ∙ ap (option_map seen_seg) c.in-Some-2.is) (ap (λ (n : ℕ). n == 0) (sym c.in-Some-2.fold.used.ok.0) ∙ (sym c.is_empty.ensures ∙ c.if-is_empty.false))
     ∙ ap (λ (m : Part). option_map (closed_by Six e.side c.args.pair.now) (seg_with w j e c.args.pair.now m (seen_seg c.in-Some-2.fold)))
     (sym (empty_made w j e c.args.pair.now c.half.result.now c.across-other.result c.of_side.result c.in_ok-theirs.theirs c.across-other.ensures c.half.ensures.is c.of_side.ensures
-    (c.in_ok-theirs.ensures w same ?)))
+    (c.in_ok-theirs.ensures w same other_tells)))
 
 pub returns-clause-seg : goal.returns-clause-seg
-returns-clause-seg c = let h = c.in_ok-theirs in ?
+returns-clause-seg c = λ w same t f is.
+    let other_tells = subst (λ (s : State). TellsFrom w s) (ap (λ (h : Half). h.state) (sym c.half.ensures.is)) (tells_side w c.args.join.now c.across-other.result t) in
+    subst (λ (z : KeptSeg × KeptPart). is_seg z.1.edge ≡ true) (same_some is) (ap (λ (x : Part). is_seg x.edge) (c.in_ok-theirs.ensures w same other_tells))

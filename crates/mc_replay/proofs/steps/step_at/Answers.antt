@@ -24,14 +24,22 @@ use Rattle.mc_replay.specs.declared.steps.SegStep.TheVariants.{Six, Seven}
 use Rattle.mc_replay.specs.Folds.{IndFound, SegFound, seen_part, seen_ind, seen_seg, seg_fold, standing_ends, partner_ends}
 use Rattle.mc_replay.specs.Forms.{is_form}
 use Rattle.mc_replay.specs.Joined.{seen}
-use Rattle.mc_replay.specs.Named.{nodes_of_both}
-use Rattle.mc_replay.specs.Steps.{ComesTo, TellsBoth, seen_ending, seg_found, closed_by, ends_to, four_joined, is_seg, by_step, has_seg, endings_on, endings_of, has_fold}
+use Rattle.mc_replay.specs.Named.{TellsFrom, nodes_of_both}
+use Rattle.mc_replay.specs.Steps.{ComesTo, TellsBoth, are_pointers, seen_ending, seg_found, closed_by, ends_to, four_joined, is_seg, by_step, has_seg, endings_on, endings_of, has_fold}
 use Rattle.mc_replay.proofs.FoldLemmas.{if_ok}
 use Rattle.mc_replay.proofs.StepLemmas.{way_given, way_kept}
 use Rattle.mc_replay.proofs.steps.step_at.Goals as goal
 
 pub returns-then-branch-clause-takes : goal.returns-then-branch-clause-takes
-returns-then-branch-clause-takes c = λ w same t. let h = c.if-branch in ?
+returns-then-branch-clause-takes c = λ w same t.
+    record { joins = way_given w (seen c.args.join.now) c.args.pair.now c.args.step (sym (c.in_ok-gives_way.ensures w same t) ∙ c.if-branch.true); tells = t }
 
 pub returns-clause-takes : goal.returns-clause-takes
-returns-clause-takes c = let h = c.if-branch in ?
+returns-clause-takes c =
+    if_ok c.by_step.result (λ done h w same t.
+    let k = h w same t in
+    record {
+      joins = way_kept w (seen c.args.join.now) c.args.pair.now c.args.step (sym (c.in_ok-gives_way.ensures w same t) ∙ c.if-branch.false) ∙ k.joins;
+      tells = k.tells;
+    })
+    c.by_step.ensures.takes
