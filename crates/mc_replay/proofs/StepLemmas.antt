@@ -1,8 +1,8 @@
 -- Steps: what is found, named and joined.
 use Rattle.std.proofs.Common.{◌≡◌, Bool, true, false, List, [], ◌∷◌, ◌++◌, Option, Some, None, Ok, Err, IfOk, map, length, slice_get, refl, sym, ap, ap₂, subst, ◌∙◌}
-use Rattle.std.specs.Prelude.{Result, ◌==◌, ◌&&◌, ◌||◌, not, is_some, is_none, option_map, option_and_then, if◌then◌else◌}
+use Rattle.std.specs.Prelude.{Result, ◌==◌, ◌&&◌, ◌||◌, not, is_some, is_none, option_map, option_and_then}
 use Rattle.std.specs.List.{list_any, list_all}
-use Rattle.std.specs.Option.{option_or, option_zip}
+use Rattle.std.specs.Option.{option_zip}
 use Rattle.mc_base.specs.declared.ids.EdgeId.{EdgeId}
 use Rattle.mc_base.specs.declared.ids.NodeId.{NodeId}
 use Rattle.mc_base.specs.declared.ids.PredId.{PredId}
@@ -18,7 +18,7 @@ use Rattle.mc_state.specs.State.{State}
 use Rattle.mc_pure_ops.specs.Join.Joint.{Pairs}
 use Rattle.mc_joins.specs.Joinings.{Half, Joining, Pair, across, half, of_side, with_pairs, edge_at, next_pair}
 use Rattle.mc_joins.specs.Parts.{Basis, Named, Part, nodes_of_args, ended_part, as_it_is, empty_seg, folded_ind, guessed_seg}
-use Rattle.mc_joins.specs.Steps.{Ending, pairs_of, edge_for, half_after, joined, joined_from, is_ind, edge_there, only_if, closing, may_end, uses_edge, six_with, six_to, six_ends, by_j6, is_seg_to, seven_ends, seven_with, seven_from, by_j7, no_j6, no_j7, by_both, are_blocks, are_inds, are_segs, four_args, four_with, four_from, by_ind, by_folds, step_at, all_steps, after_step, is_stuck, predicates, endings}
+use Rattle.mc_joins.specs.Steps.{Ending, pairs_of, edge_for, joined, joined_from, is_ind, edge_there, only_if, closing, may_end, uses_edge, six_with, six_to, six_ends, by_j6, is_seg_to, seven_ends, seven_with, seven_from, by_j7, no_j6, no_j7, by_both, are_blocks, are_inds, are_segs, four_args, four_with, four_from, by_ind, by_folds, step_at, all_steps, is_stuck, predicates, endings}
 use Rattle.mc_replay.specs.declared.joining.Half.{Half as KeptHalf}
 use Rattle.mc_replay.specs.declared.joining.Joining.{Joining as Kept}
 use Rattle.mc_replay.specs.declared.folds.Part.{Part as KeptPart}
@@ -26,10 +26,10 @@ use Rattle.mc_replay.specs.declared.folds.SegFold.{SegFold as KeptSeg}
 use Rattle.mc_replay.specs.declared.steps.OtherFold.{OtherFold}
 use Rattle.mc_replay.specs.declared.steps.SegStep.{SegStep}
 use Rattle.mc_replay.specs.declared.steps.SegStep.TheVariants.{Six, Seven}
-use Rattle.mc_replay.specs.Folds.{IndFound, SegFound, OnlyNames, seen_part, seen_ind, seen_seg, ind_fold_for, seg_fold, standing_ends, partner_ends, made_ind, made_seg, named_ind, with_state}
+use Rattle.mc_replay.specs.Folds.{IndFound, SegFound, OnlyNames, seen_part, seen_ind, seen_seg, ind_fold_for, seg_fold, partner_ends, made_ind, made_seg, named_ind}
 use Rattle.mc_replay.specs.Joined.{seen, seen_half}
 use Rattle.mc_replay.specs.Named.{TellsFrom, nodes_of_both}
-use Rattle.mc_replay.specs.Steps.{TellsBoth, both_joined, has_both, by_seg, has_seg, ends_to, are_pointers, closed_by, seg_joined, seg_found, is_seg, GivesSeg, by_either, four_joined, GivesInd, has_fold, gives_way, by_step, has_step}
+use Rattle.mc_replay.specs.Steps.{TellsBoth, has_both, by_seg, has_seg, ends_to, are_pointers, closed_by, seg_joined, seg_found, is_seg, GivesSeg, by_either, four_joined, GivesInd, has_fold, gives_way, by_step, has_step}
 use Rattle.mc_replay.proofs.FoldLemmas.{ind_bridge, seg_bridge, joined_from_anew, other_stays, tells_both}
 use Rattle.mc_replay.proofs.StepLists.{any_map, any_two, any_seg, all_none, not_twice}
 use Rattle.std.proofs.lemmas.List.Folds.{list_any-append}
