@@ -1,5 +1,6 @@
 -- Steps: what is found, named and joined.
-use Rattle.std.proofs.Common.{◌≡◌, Bool, true, false, List, [], ◌∷◌, ◌++◌, Option, Some, None, Ok, Err, IfOk, map, length, slice_get, refl, sym, ap, ap₂, subst, ◌∙◌}
+use Rattle.std.proofs.Common.{◌≡◌, Bool, true, false, List, [], ◌∷◌, ◌++◌, Option, Some, None, Ok, Err, IfOk, map, length, slice_get, refl, sym, ap, ap₂, subst}
+use Rattle.std.proofs.Common.{◌∙◌}
 use Rattle.std.specs.Prelude.{Result, ◌==◌, ◌&&◌, ◌||◌, not, is_some, is_none, option_map, option_and_then}
 use Rattle.std.specs.List.{list_any, list_all}
 use Rattle.std.specs.Option.{option_zip}
@@ -18,7 +19,9 @@ use Rattle.mc_state.specs.State.{State}
 use Rattle.mc_pure_ops.specs.Join.Joint.{Pairs}
 use Rattle.mc_joins.specs.Joinings.{Half, Joining, Pair, across, half, of_side, with_pairs, edge_at, next_pair}
 use Rattle.mc_joins.specs.Parts.{Basis, Named, Part, nodes_of_args, ended_part, as_it_is, empty_seg, folded_ind, guessed_seg}
-use Rattle.mc_joins.specs.Steps.{Ending, pairs_of, edge_for, joined, joined_from, is_ind, edge_there, only_if, closing, may_end, uses_edge, six_with, six_to, six_ends, by_j6, is_seg_to, seven_ends, seven_with, seven_from, by_j7, no_j6, no_j7, by_both, are_blocks, are_inds, are_segs, four_args, four_with, four_from, by_ind, by_folds, step_at, all_steps, is_stuck, predicates, endings}
+use Rattle.mc_joins.specs.Steps.{Ending, pairs_of, edge_for, joined, joined_from, is_ind, edge_there, only_if, closing, may_end, uses_edge, six_with, six_to}
+use Rattle.mc_joins.specs.Steps.{six_ends, by_j6, is_seg_to, seven_ends, seven_with, seven_from, by_j7, no_j6, no_j7, by_both, are_blocks, are_inds, are_segs}
+use Rattle.mc_joins.specs.Steps.{four_args, four_with, four_from, by_ind, by_folds, step_at, all_steps, is_stuck, predicates, endings}
 use Rattle.mc_replay.specs.declared.joining.Half.{Half as KeptHalf}
 use Rattle.mc_replay.specs.declared.joining.Joining.{Joining as Kept}
 use Rattle.mc_replay.specs.declared.folds.Part.{Part as KeptPart}
@@ -26,10 +29,12 @@ use Rattle.mc_replay.specs.declared.folds.SegFold.{SegFold as KeptSeg}
 use Rattle.mc_replay.specs.declared.steps.OtherFold.{OtherFold}
 use Rattle.mc_replay.specs.declared.steps.SegStep.{SegStep}
 use Rattle.mc_replay.specs.declared.steps.SegStep.TheVariants.{Six, Seven}
-use Rattle.mc_replay.specs.Folds.{IndFound, SegFound, OnlyNames, seen_part, seen_ind, seen_seg, ind_fold_for, seg_fold, partner_ends, made_ind, made_seg, named_ind}
+use Rattle.mc_replay.specs.Folds.{IndFound, SegFound, OnlyNames, seen_part, seen_ind, seen_seg, ind_fold_for, seg_fold, partner_ends, made_ind, made_seg}
+use Rattle.mc_replay.specs.Folds.{named_ind}
 use Rattle.mc_replay.specs.Joined.{seen, seen_half}
 use Rattle.mc_replay.specs.Named.{TellsFrom, nodes_of_both}
-use Rattle.mc_replay.specs.Steps.{TellsBoth, has_both, by_seg, has_seg, ends_to, are_pointers, closed_by, seg_joined, seg_found, is_seg, GivesSeg, by_either, four_joined, GivesInd, has_fold, gives_way, by_step, has_step}
+use Rattle.mc_replay.specs.Steps.{TellsBoth, has_both, by_seg, has_seg, ends_to, are_pointers, closed_by, seg_joined, seg_found, is_seg, GivesSeg, by_either}
+use Rattle.mc_replay.specs.Steps.{four_joined, GivesInd, has_fold, gives_way, by_step, has_step}
 use Rattle.mc_replay.proofs.FoldLemmas.{ind_bridge, seg_bridge, joined_from_anew, other_stays, tells_both}
 use Rattle.mc_replay.proofs.StepLists.{any_map, any_two, any_seg, all_none, not_twice}
 use Rattle.std.proofs.lemmas.List.Folds.{list_any-append}
@@ -98,7 +103,8 @@ module _ (old : Kept) (left right : KeptPart) where
 
   abbrev edge_put : Pairs → Option Edge → Option Joining
   edge_put pairs o =
-      option_map (λ e. after (less old.left.state.graph.edges old.left.used.items left.used.items) (less old.right.state.graph.edges old.right.used.items right.used.items) pairs (old.edges.items ++ e ∷ [])) o
+      option_map (λ e. after (less old.left.state.graph.edges old.left.used.items left.used.items)
+      (less old.right.state.graph.edges old.right.used.items right.used.items) pairs (old.edges.items ++ e ∷ [])) o
 
   pub put_joins : (ls rs : List EdgeId) (pairs : Pairs) (edges : List Edge) (e : Edge)
       → pairs ≡ with_pairs old.pairs.items (pairs_of left.edge right.edge) → Some e ≡ edge_for pairs left.edge right.edge
@@ -133,19 +139,23 @@ inds_make pairs (Seg a args pred «end» ends) f l r = absurd (cc l)
 joins_made : (j : Joining) (l r : Part) → is_some (joined j l r) ≡ is_some (edge_for (with_pairs j.pairs (pairs_of l.edge r.edge)) l.edge r.edge)
 joins_made j l r = is_map _ (edge_for (with_pairs j.pairs (pairs_of l.edge r.edge)) l.edge r.edge)
 
-segs_join : (j : Joining) (side : Side) (mine theirs : Part) → is_seg mine.edge ≡ true → is_seg theirs.edge ≡ true → is_some (joined_from j side mine theirs) ≡ true
+segs_join : (j : Joining) (side : Side) (mine theirs : Part) → is_seg mine.edge ≡ true → is_seg theirs.edge ≡ true
+    → is_some (joined_from j side mine theirs) ≡ true
 segs_join j Left mine theirs m t = joins_made j mine theirs ∙ segs_make _ mine.edge theirs.edge m t
 segs_join j Right mine theirs m t = joins_made j theirs mine ∙ segs_make _ theirs.edge mine.edge t m
 
-inds_join : (j : Joining) (side : Side) (mine theirs : Part) → is_ind mine.edge ≡ true → is_ind theirs.edge ≡ true → is_some (joined_from j side mine theirs) ≡ true
+inds_join : (j : Joining) (side : Side) (mine theirs : Part) → is_ind mine.edge ≡ true → is_ind theirs.edge ≡ true
+    → is_some (joined_from j side mine theirs) ≡ true
 inds_join j Left mine theirs m t = joins_made j mine theirs ∙ inds_make _ mine.edge theirs.edge m t
 inds_join j Right mine theirs m t = joins_made j theirs mine ∙ inds_make _ theirs.edge mine.edge t m
 
 -- both sides' edges as they are
-pub both_at : (of_form : Edge → Edge → Bool) (j : Joining) (p : Pair) (l r : EdgeId × Edge) → edge_at j Left p ≡ Some l → edge_at j Right p ≡ Some r → of_form l.1 r.1 ≡ true
+pub both_at : (of_form : Edge → Edge → Bool) (j : Joining) (p : Pair) (l r : EdgeId × Edge) → edge_at j Left p ≡ Some l → edge_at j Right p ≡ Some r
+    → of_form l.1 r.1 ≡ true
     → by_both of_form j p ≡ joined j (as_it_is j.left l) (as_it_is j.right r)
 both_at of_form j p l r left right is =
-    ap₂ (λ (x y : Option (EdgeId × Edge)). option_and_then (λ both. only_if (of_form both.0.1 both.1.1) (joined j (as_it_is j.left both.0) (as_it_is j.right both.1))) (option_zip x y)) left right
+    ap₂ (λ (x y : Option (EdgeId × Edge)). option_and_then (λ both. only_if (of_form both.0.1 both.1.1) (joined j (as_it_is j.left both.0)
+    (as_it_is j.right both.1))) (option_zip x y)) left right
     ∙ ap (λ (b : Bool). only_if b (joined j (as_it_is j.left l) (as_it_is j.right r))) is
 
 -- ---- where nodes were named in one state
@@ -211,7 +221,8 @@ module _ (w : Basis) (j : Joining) (e : Ending) (p : Pair) where
     six_last first (Some last) = refl
 
     six_first : (o : Option Named) → option_and_then six_by (option_and_then (ended_part w e.side p e.pred f.stop f.ends f.used) o)
-        ≡ only_if (not (length f.used == 0)) (option_map (closing (across e.side) p) (option_and_then (with_other theirs) (option_and_then (ended_part w e.side p e.pred f.stop f.ends f.used) o)))
+        ≡ only_if (not (length f.used == 0)) (option_map (closing (across e.side) p) (option_and_then (with_other theirs) (option_and_then
+        (ended_part w e.side p e.pred f.stop f.ends f.used) o)))
     six_first None = only_nothing (not (length f.used == 0))
     six_first (Some first) = six_last first (nodes_of_args w e.pred first.state f.ends)
 
@@ -233,12 +244,14 @@ module _ (w : Basis) (j : Joining) (e : Ending) (p : Pair) where
           ∙ (ap (λ (b : Bool). only_if b (option_and_then (six_with w j p e) (guessed_seg w j e.side p e.pred (of_side e.side q) (six_ends w j e q)))) may
           ∙ (ap (option_and_then (six_with w j p e)) (seg_bridge w j e.side p e.pred (of_side e.side q) (six_ends w j e q))
           ∙ (then_then (six_with w j p e) (made_seg w j e.side p e.pred) (seg_fold w j e.side p e.pred (of_side e.side q) (six_ends w j e q))
-          ∙ then_each (λ f. option_and_then (six_with w j p e) (made_seg w j e.side p e.pred f)) six_then (λ f. six_made empty f) (seg_fold w j e.side p e.pred (of_side e.side q) (six_ends w j e q)))))
+          ∙ then_each (λ f. option_and_then (six_with w j p e) (made_seg w j e.side p e.pred f)) six_then (λ f. six_made empty f) (seg_fold w j e.side p e.pred
+          (of_side e.side q) (six_ends w j e q)))))
 
       pub six_none : seg_fold w j e.side p e.pred (of_side e.side q) (six_ends w j e q) ≡ None → by_j6 w j p e ≡ None
       six_none is = six_at ∙ ap (option_and_then six_then) is
 
-      pub six_empty : (f : SegFound) → seg_fold w j e.side p e.pred (of_side e.side q) (six_ends w j e q) ≡ Some f → (length f.used == 0) ≡ true → by_j6 w j p e ≡ None
+      pub six_empty : (f : SegFound) → seg_fold w j e.side p e.pred (of_side e.side q) (six_ends w j e q) ≡ Some f → (length f.used == 0) ≡ true
+          → by_j6 w j p e ≡ None
       six_empty f is none =
           six_at ∙ (ap (option_and_then six_then) is ∙ ap (λ (b : Bool). only_if (not b) (option_map (closing (across e.side) p) (seg_with empty f))) none)
 
@@ -254,7 +267,8 @@ module _ (w : Basis) (j : Joining) (e : Ending) (p : Pair) where
     ends_are (Seg a args own stop stops) ends is = at (own.0 == e.pred.0 && stop.0 == (of_side (across e.side) q).0) refl is
       where
         at : (b : Bool) → (own.0 == e.pred.0 && stop.0 == (of_side (across e.side) q).0) ≡ b → only_if b (Some stops) ≡ Some ends
-            → (s : SegParts) × (seg_of (Some (Seg a args own stop stops)) ≡ Some s) × ((s.pred.0 == e.pred.0 && s.stop.0 == (of_side (across e.side) q).0) ≡ true) × (s.ends ≡ ends)
+            → (s : SegParts) × (seg_of (Some (Seg a args own stop stops)) ≡ Some s) × ((s.pred.0 == e.pred.0 && s.stop.0 == (of_side (across e.side) q).0)
+            ≡ true) × (s.ends ≡ ends)
         at true b is = (record { at = a; args = args; pred = own; stop = stop; ends = stops }, refl, b, same_some is)
         at false b is = absurd (cc is)
 
@@ -272,7 +286,8 @@ module _ (w : Basis) (j : Joining) (e : Ending) (p : Pair) where
           ap (λ (x : Option Pair). option_and_then (λ q. option_and_then (seven_from w j p e q) (edge_at j (across e.side) p)) x) there
           ∙ (ap (option_and_then (seven_from w j p e q)) edge
           ∙ (ap (option_and_then (seven_with w j p e q entry)) s.1
-          ∙ (ap (λ (b : Bool). only_if b (option_and_then (with_other their_seg) (guessed_seg w j e.side p e.pred (of_side e.side q) (seven_ends w j e q s.0)))) seg
+          ∙ (ap (λ (b : Bool). only_if b (option_and_then (with_other their_seg) (guessed_seg w j e.side p e.pred (of_side e.side q)
+          (seven_ends w j e q s.0)))) seg
           ∙ (ap (option_and_then (with_other their_seg)) (seg_bridge w j e.side p e.pred (of_side e.side q) (seven_ends w j e q s.0))
           ∙ (then_then (with_other their_seg) (made_seg w j e.side p e.pred) (seg_fold w j e.side p e.pred (of_side e.side q) (seven_ends w j e q s.0))
           ∙ ap (option_and_then (seg_with their_seg))
@@ -305,13 +320,16 @@ empty_made w j e p h other at part across_is half_is at_is made =
 
 -- what is named and put is what comes of the step
 module _ (w : Basis) (old mid : Kept) (e : Ending) (p : Pair) (fold : KeptSeg) (theirs : KeptPart) (names : OnlyNames e.side old mid) where
-  pub seg_put : (mine : KeptPart) (to : Option Joining) → Some (seen_part (half (seen mid) e.side).state mine) ≡ made_seg w (seen old) e.side p e.pred (seen_seg fold)
+  pub seg_put : (mine : KeptPart) (to : Option Joining) → Some (seen_part (half (seen mid) e.side).state mine) ≡ made_seg w (seen old) e.side p e.pred
+      (seen_seg fold)
       → joined_from (seen mid) e.side (seen_part (half (seen mid) e.side).state mine) (seen_part (half (seen mid) (across e.side)).state theirs) ≡ to
       → seg_joined w (seen old) e p (fold, theirs) ≡ to
   seg_put mine to made put =
       ap (option_and_then (λ x. joined_from (seen old) e.side x (seen_part (half (seen old) (across e.side)).state theirs))) (sym made)
-      ∙ (ap (λ (s : State). joined_from (seen old) e.side (seen_part (half (seen mid) e.side).state mine) (seen_part s theirs)) (sym (same_other e.side old mid names))
-      ∙ (sym (same_from e.side old mid names e.side (seen_part (half (seen mid) e.side).state mine) (seen_part (half (seen mid) (across e.side)).state theirs)) ∙ put))
+      ∙ (ap (λ (s : State). joined_from (seen old) e.side (seen_part (half (seen mid) e.side).state mine) (seen_part s theirs)) (sym
+      (same_other e.side old mid names))
+      ∙ (sym (same_from e.side old mid names e.side (seen_part (half (seen mid) e.side).state mine) (seen_part (half (seen mid) (across e.side)).state theirs))
+      ∙ put))
 
   pub seg_unmade : None ≡ made_seg w (seen old) e.side p e.pred (seen_seg fold) → seg_joined w (seen old) e p (fold, theirs) ≡ None
   seg_unmade made = ap (option_and_then (λ x. joined_from (seen old) e.side x (seen_part (half (seen old) (across e.side)).state theirs))) (sym made)
@@ -325,7 +343,8 @@ module _ (w : Basis) (j : Joining) (p : Pair) (pred : PredId) (side : Side) wher
   abbrev pub ind_with : Part → IndFound → Option Joining
   ind_with mine f = option_and_then (with_mine mine) (made_ind w j (across side) p pred f)
 
-  pub ind_applies : (mine : Part) (f : IndFound) → is_ind mine.edge ≡ true → is_some (ind_with mine f) ≡ is_some (nodes_of_args w pred (half j (across side)).state f.args)
+  pub ind_applies : (mine : Part) (f : IndFound) → is_ind mine.edge ≡ true → is_some (ind_with mine f) ≡ is_some (nodes_of_args w pred (half j
+      (across side)).state f.args)
   ind_applies mine f is = at (nodes_of_args w pred (half j (across side)).state f.args)
     where
       at : (o : Option Named) → is_some (option_and_then (with_mine mine) (option_map (named_ind (across side) p pred f.used) o)) ≡ is_some o
@@ -337,13 +356,15 @@ module _ (w : Basis) (j : Joining) (p : Pair) (pred : PredId) (side : Side) wher
     abbrev my_ind : Part
     my_ind = as_it_is (half j side) entry
 
-    pub four_at : is_some (ind_of pred (edge_there j (across side) p)) ≡ false → (o : Option IndFound) → ((i : IndParts) → i.args ≡ args → o ≡ ind_fold_for w j side p pred i)
+    pub four_at : is_some (ind_of pred (edge_there j (across side) p)) ≡ false → (o : Option IndFound) → ((i : IndParts) → i.args ≡ args
+        → o ≡ ind_fold_for w j side p pred i)
         → by_ind w j p pred side ≡ option_and_then (ind_with my_ind) o
     four_at other o is =
         let i = map_some (λ (i : IndParts). i.args) (ind_of pred (Some entry.1)) args to in
         ap (option_and_then (four_from w j p pred side)) edge
         ∙ (ap (option_and_then (four_with w j p pred side entry)) i.1
-        ∙ (ap (λ (b : Bool). only_if b (option_and_then (with_mine my_ind) (folded_ind w j (across side) p pred (four_args w j p pred side i.0)))) (none_there (ind_of pred (edge_there j (across side) p)) other)
+        ∙ (ap (λ (b : Bool). only_if b (option_and_then (with_mine my_ind) (folded_ind w j (across side) p pred (four_args w j p pred side i.0)))) (none_there
+        (ind_of pred (edge_there j (across side) p)) other)
         ∙ (ap (option_and_then (with_mine my_ind)) (ind_bridge w j (across side) p pred (four_args w j p pred side i.0))
         ∙ (then_then (with_mine my_ind) (made_ind w j (across side) p pred) (ind_fold_for w j side p pred i.0)
         ∙ ap (option_and_then (ind_with my_ind)) (sym (is i.0 i.2))))))
@@ -354,7 +375,8 @@ ind_there pred (Block a shape fields) i is = absurd (cc is)
 ind_there pred (Ind a own args) i is = refl
 ind_there pred (Seg a args own stop stops) i is = absurd (cc is)
 
-pub gives_ind : (pred : PredId) (edge : Edge) (args : List NodeId) → option_map (λ (i : IndParts). i.args) (ind_of pred (Some edge)) ≡ Some args → is_ind edge ≡ true
+pub gives_ind : (pred : PredId) (edge : Edge) (args : List NodeId) → option_map (λ (i : IndParts). i.args) (ind_of pred (Some edge)) ≡ Some args
+    → is_ind edge ≡ true
 gives_ind pred edge args to = let i = map_some (λ (i : IndParts). i.args) (ind_of pred (Some edge)) args to in ind_there pred edge i.0 i.1
 
 -- the step applies where what was found can be named
@@ -381,7 +403,8 @@ module _ (w : Basis) (old mid : Kept) (p : Pair) (pred : PredId) (f : OtherFold)
   four_at_other theirs to made put =
       ap (option_and_then (λ x. joined_from (seen old) f.side (seen_part (half (seen old) f.side).state f.mine) x)) (sym made)
       ∙ (ap (λ (s : State). joined_from (seen old) f.side (seen_part s f.mine) (seen_part (half (seen mid) (across f.side)).state theirs)) (sym same_mine)
-      ∙ (sym (same_from (across f.side) old mid names f.side (seen_part (half (seen mid) f.side).state f.mine) (seen_part (half (seen mid) (across f.side)).state theirs)) ∙ put))
+      ∙ (sym (same_from (across f.side) old mid names f.side (seen_part (half (seen mid) f.side).state f.mine) (seen_part (half (seen mid)
+      (across f.side)).state theirs)) ∙ put))
 
 module _ (w : Basis) (old mid : Kept) (p : Pair) (pred : PredId) (f : OtherFold) (other : Side) (is : other ≡ across f.side) where
   pub four_put : (theirs : KeptPart) (to : Option Joining) → OnlyNames other old mid
@@ -461,7 +484,8 @@ module _ (w : Basis) (j : Joining) (p : Pair) where
       ap (λ (z : Bool). is_some (by_both are_blocks j p) || (is_some (by_both are_inds j p) || (false || (fours false || (fives false || z))))) is
       ∙ or_late (is_some (by_both are_blocks j p)) (is_some (by_both are_inds j p)) false (fours false) (fives false)
   cases_are true true is =
-      ap (λ (z : Bool). is_some (by_both are_blocks j p) || (is_some (by_both are_inds j p) || (is_some (by_both are_segs j p) || (fours true || (fives true || z))))) is
+      ap (λ (z : Bool). is_some (by_both are_blocks j p) || (is_some (by_both are_inds j p) || (is_some (by_both are_segs j p) || (fours true ||
+      (fives true || z))))) is
       ∙ (or_parts (is_some (by_both are_blocks j p)) (is_some (by_both are_inds j p)) (is_some (by_both are_segs j p)) (fours true) (fives true)
       ∙ ap (λ (z : Bool). has_both j p || z) (sym (any_two (λ pred. is_some (by_either w j p pred)) (λ pred. is_some (by_folds w j p pred)) (predicates w))))
 
@@ -472,7 +496,8 @@ module _ (w : Basis) (j : Joining) (p : Pair) where
       let five : List JoinStep = map J5 (predicates w) in
       let six : List JoinStep = map (λ e. J6 e.pred e.side e.place) (endings w j) in
       let seven : List JoinStep = map (λ e. J7 e.pred e.side e.place) (endings w j) in
-      let rest : list_any test (four ++ (five ++ (six ++ seven))) ≡ (fours (no_j6 w j p && no_j7 w j p) || (fives (no_j6 w j p && no_j7 w j p) || (not (no_j6 w j p) || sevens (no_j6 w j p)))) =
+      let rest : list_any test (four ++ (five ++ (six ++ seven))) ≡ (fours (no_j6 w j p && no_j7 w j p) || (fives (no_j6 w j p && no_j7 w j p) || (not
+      (no_j6 w j p) || sevens (no_j6 w j p)))) =
       list_any-append test four (five ++ (six ++ seven))
       ∙ ap₂ (λ (x y : Bool). x || y) (any_map test J4 (predicates w))
       (list_any-append test five (six ++ seven)

@@ -1,5 +1,6 @@
 -- Lists that are asked whether any of their elements passes a test.
-use Rattle.std.proofs.Common.{◌≡◌, ◌<◌, ◌≤◌, ◌+◌, ◌-◌, ℕ, suc, Bool, true, false, List, [], ◌∷◌, ◌++◌, map, Option, Some, None, length, refl, sym, ap, ap₂, ◌∙◌, arith}
+use Rattle.std.proofs.Common.{◌≡◌, ◌<◌, ◌≤◌, ◌+◌, ◌-◌, ℕ, suc, Bool, true, false, List, [], ◌∷◌, ◌++◌, map, Option, Some, None, length, refl, sym, ap, ap₂, ◌∙◌}
+use Rattle.std.proofs.Common.{arith}
 use Rattle.std.specs.Prelude.{◌&&◌, ◌||◌, not, is_some, is_none, flat_map}
 use Rattle.std.specs.List.{list_any, list_all, range_with_len}
 use Rattle.std.proofs.lemmas.List.Folds.{list_any-append}
@@ -82,13 +83,15 @@ abbrev pub pred_of : ℕ → PredId
 pred_of i = record { 0 = i }
 
 module _ (test : Ending → Bool) (j : Joining) where
-  pub any_on : (pred : PredId) (side : Side) → list_any test (endings_on j pred side) ≡ list_any (λ place. test (ending_on pred side place)) (range_with_len 0 (length j.pairs))
+  pub any_on : (pred : PredId) (side : Side) → list_any test (endings_on j pred side) ≡ list_any (λ place. test (ending_on pred side place)) (range_with_len 0
+      (length j.pairs))
   any_on pred side = any_map test (ending_on pred side) (range_with_len 0 (length j.pairs))
 
   pub any_of : (pred : PredId) → list_any test (endings_of j pred) ≡ (list_any test (endings_on j pred Left) || list_any test (endings_on j pred Right))
   any_of pred =
       list_any-append test (endings_on j pred Left) (endings_on j pred Right ++ [])
-      ∙ ap (λ b. list_any test (endings_on j pred Left) || b) (list_any-append test (endings_on j pred Right) [] ∙ or_none (list_any test (endings_on j pred Right)))
+      ∙ ap (λ b. list_any test (endings_on j pred Left) || b) (list_any-append test (endings_on j pred Right) []
+      ∙ or_none (list_any test (endings_on j pred Right)))
 
   pub any_ending : (w : Basis) → list_any test (endings w j) ≡ list_any (λ pred. list_any test (endings_of j pred)) (predicates w)
   any_ending w = any_flat test (endings_of j) (predicates w)

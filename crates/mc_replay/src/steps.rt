@@ -523,7 +523,13 @@ fn has_four(
     ensures { IfOk result (λ has. ForTests defs.now join.now (λ w. has ≡ is_some (by_either w (seen join.now) pair.now pred))) }
 {
     match either(alloc, join, defs, pair, pred)? {
-        Some(found) => ind_has_nodes(alloc, join.half(across(found.side)), defs, pred, &found.fold),
+        Some(found) => ind_has_nodes(
+            alloc,
+            join.half(across(found.side)),
+            defs,
+            pred,
+            &found.fold,
+        ),
         None => Ok(false),
     }
 }
@@ -770,12 +776,7 @@ fn has_fold(
 }
 
 /// Whether J4 or J5 applies with any predicate, where J6 and J7 do not.
-fn has_any_fold(
-    alloc: Global,
-    join: &Joining,
-    defs: &Defs,
-    pair: &Pair,
-) -> Result<bool, NoMemory>
+fn has_any_fold(alloc: Global, join: &Joining, defs: &Defs, pair: &Pair) -> Result<bool, NoMemory>
     requires { AreGood join.now }
     ensures { IfOk result (λ has. ForTests defs.now join.now (λ w.
         has ≡ list_any (has_fold w (seen join.now) pair.now) (predicates w))) }

@@ -36,7 +36,8 @@ returns-clause-takes c =
       joins =
           c.in_ok-side.ensures.joins w same t
           ∙ (ap (option_and_then (four_joined w (seen old) p c.args.pred)) c.in-Some.is
-          ∙ four_put w old mid p c.args.pred f c.across.result c.across.ensures c.in-Some-2.theirs (if done then Some (seen new) else None) c.in_ok-theirs.ensures.only
+          ∙ four_put w old mid p c.args.pred f c.across.result c.across.ensures c.in-Some-2.theirs (if done then Some
+          (seen new) else None) c.in_ok-theirs.ensures.only
           (sym (ap (option_map (seen_part (half (seen mid) c.across.result).state)) c.in-Some-2.is) ∙ made) put);
       tells = tells_kept w mid new left right (tells_named c.across.result old mid c.in_ok-theirs.ensures.only w t);
     })

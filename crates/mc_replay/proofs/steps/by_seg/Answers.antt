@@ -23,7 +23,8 @@ returns-in_default-2-clause-takes c = λ w same t.
     record {
       joins =
           found
-          ∙ ap (option_map (closed_by c.args.step e.side p)) (seg_unmade w old mid e p c.in-Some.fold c.in-Some.theirs names (sym (ap (option_map (seen_part (half (seen mid) e.side).state)) c.in_default-2.is) ∙ made));
+          ∙ ap (option_map (closed_by c.args.step e.side p)) (seg_unmade w old mid e p c.in-Some.fold c.in-Some.theirs names (sym (ap (option_map (seen_part
+          (half (seen mid) e.side).state)) c.in_default-2.is) ∙ made));
       tells = tells_named e.side old mid names w t;
     }
 
@@ -37,13 +38,15 @@ returns-then-not-branch-clause-takes c = λ w same t.
     let names = c.in_ok-mine.ensures.only in
     let found = c.in_ok-fold.ensures.joins w same t ∙ ap (λ (o : Option (KeptSeg × KeptPart)). seg_found c.args.step w j e p o) c.in-Some.is in
     let made = c.in_ok-mine.ensures.made w same (tells_side w old c.args.ending.side t) in
-    let put = seg_put w old mid e p c.in-Some.fold c.in-Some.theirs names c.in-Some-2.mine (if c.in_ok-put_from.field-0 then Some (seen c.put_from.new.join) else None)
+    let put = seg_put w old mid e p c.in-Some.fold c.in-Some.theirs names c.in-Some-2.mine (if c.in_ok-put_from.field-0 then Some
+    (seen c.put_from.new.join) else None)
     (sym (ap (option_map (seen_part (half (seen mid) e.side).state)) c.in-Some-2.is) ∙ made) c.in_ok-put_from.ensures.joins in
     let tells = tells_kept w mid c.put_from.new.join c.in_ok-put_from.ensures.left c.in_ok-put_from.ensures.right (tells_named e.side old mid names w t) in
     record {
       joins =
           found
-          ∙ ap (option_map (closed_by c.args.step e.side p)) (put ∙ ap (λ (b : Bool). if b then Some (seen c.put_from.new.join) else None) c.if-not-branch.true);
+          ∙ ap (option_map (closed_by c.args.step e.side p)) (put ∙ ap (λ (b : Bool). if b then Some
+          (seen c.put_from.new.join) else None) c.if-not-branch.true);
       tells = tells;
     }
 
@@ -57,13 +60,16 @@ returns-clause-takes c = λ w same t.
     let names = c.in_ok-mine.ensures.only in
     let found = c.in_ok-fold.ensures.joins w same t ∙ ap (λ (o : Option (KeptSeg × KeptPart)). seg_found c.args.step w j e p o) c.in-Some.is in
     let made = c.in_ok-mine.ensures.made w same (tells_side w old c.args.ending.side t) in
-    let put = seg_put w old mid e p c.in-Some.fold c.in-Some.theirs names c.in-Some-2.mine (if c.in_ok-put_from.field-0 then Some (seen c.put_from.new.join) else None)
+    let put = seg_put w old mid e p c.in-Some.fold c.in-Some.theirs names c.in-Some-2.mine (if c.in_ok-put_from.field-0 then Some
+    (seen c.put_from.new.join) else None)
     (sym (ap (option_map (seen_part (half (seen mid) e.side).state)) c.in-Some-2.is) ∙ made) c.in_ok-put_from.ensures.joins in
     let tells = tells_kept w mid c.put_from.new.join c.in_ok-put_from.ensures.left c.in_ok-put_from.ensures.right (tells_named e.side old mid names w t) in
     record {
       joins =
           found
-          ∙ (ap (option_map (closed_by c.args.step e.side p)) (put ∙ ap (λ (b : Bool). if b then Some (seen c.put_from.new.join) else None) c.if-not-branch.false)
+          ∙ (ap (option_map (closed_by c.args.step e.side p)) (put ∙ ap (λ (b : Bool). if b then Some
+          (seen c.put_from.new.join) else None) c.if-not-branch.false)
           ∙ ap (λ (z : Joining). Some z) (sym c.in_ok-close.ensures.seen));
-      tells = tells_kept w c.put_from.new.join c.close.new.join (ap (λ (h : KeptHalf). h.state) c.in_ok-close.ensures.left) (ap (λ (h : KeptHalf). h.state) c.in_ok-close.ensures.right) tells;
+      tells = tells_kept w c.put_from.new.join c.close.new.join (ap (λ (h : KeptHalf). h.state) c.in_ok-close.ensures.left) (ap (λ
+          (h : KeptHalf). h.state) c.in_ok-close.ensures.right) tells;
     }

@@ -17,5 +17,6 @@ returns-in-Some c =
     let state = ap (λ (x : Half). x.state) c.half.ensures.is in
     h w same (subst (λ (s : State). TellsFrom w s) (sym state) (tells_side w c.args.join.now c.args.ending.side t))
     ∙ (ap (λ (s : State). is_some (nodes_of_both w e.pred s c.in-Some.found.0.args.items c.in-Some.found.0.ends.items)) state
-    ∙ sym (seg_has c.args.step w j e c.args.pair.now c.in_ok-found.field-0 c.in-Some.found c.in-Some.is (c.in_ok-found.ensures.seg w same t) (c.in_ok-found.ensures.joins w same t))))
+    ∙ sym (seg_has c.args.step w j e c.args.pair.now c.in_ok-found.field-0 c.in-Some.found c.in-Some.is (c.in_ok-found.ensures.seg w same t)
+    (c.in_ok-found.ensures.joins w same t))))
     c.seg_has_nodes.ensures

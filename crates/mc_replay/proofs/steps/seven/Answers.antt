@@ -27,13 +27,16 @@ returns-in_default-2-clause-joins c = λ w same t.
     let edge : edge_at j (across e.side) p ≡ Some c.in-Some-edge_at.entry.now =
     ap (λ (s : Side). edge_at j s p) (sym other) ∙ (sym c.edge_at.ensures ∙ ap (λ (o : Option (Bor (EdgeId × Edge))). option_copied o) c.in-Some-edge_at.is) in
     let to : ends_to e.pred (of_side (across e.side) q) c.in-Some-edge_at.entry.now.1 ≡ Some c.in-Some-ends_to.others.now =
-    ap (λ (n : NodeId). ends_to e.pred n c.in-Some-edge_at.entry.now.1) (sym stop) ∙ (sym c.ends_to.ensures ∙ ap (λ (o : Option (Bor (List NodeId))). option_copied o) c.in-Some-ends_to.is) in
+    ap (λ (n : NodeId). ends_to e.pred n c.in-Some-edge_at.entry.now.1) (sym stop) ∙ (sym c.ends_to.ensures
+    ∙ ap (λ (o : Option (Bor (List NodeId))). option_copied o) c.in-Some-ends_to.is) in
     let pointers : are_pointers j q ≡ true = sym c.are_pointers.ensures ∙ c.if-not-are_pointers.false in
-    let found : option_map seen_seg c.in_ok-fold.field-0 ≡ seg_fold w j e.side p e.pred (of_side e.side q) (partner_ends w j e.side e.pred (of_side e.side q) c.in-Some-ends_to.others.now) =
+    let found : option_map seen_seg c.in_ok-fold.field-0 ≡ seg_fold w j e.side p e.pred (of_side e.side q) (partner_ends w j e.side e.pred
+    (of_side e.side q) c.in-Some-ends_to.others.now) =
     c.in_ok-fold.ensures w same (tells_side w c.args.join.now c.args.ending.side t)
     ∙ ap (λ (n : NodeId). seg_fold w j e.side p e.pred n (partner_ends w j e.side e.pred n c.in-Some-ends_to.others.now)) c.of_side-stop.ensures in
     seven_at w j e p q there c.in-Some-edge_at.entry.now edge c.in-Some-ends_to.others.now to pointers (option_map seen_seg c.in_ok-fold.field-0) found
-    ∙ ap (λ (o : Option KeptSeg). option_and_then (seg_with w j e p (as_it_is (half j (across e.side)) c.in-Some-edge_at.entry.now)) (option_map seen_seg o)) c.in_default-2.is
+    ∙ ap (λ (o : Option KeptSeg). option_and_then (seg_with w j e p (as_it_is (half j (across e.side)) c.in-Some-edge_at.entry.now))
+    (option_map seen_seg o)) c.in_default-2.is
 
 pub returns-clause-joins : goal.returns-clause-joins
 returns-clause-joins c = λ w same t.
@@ -47,13 +50,16 @@ returns-clause-joins c = λ w same t.
     let edge : edge_at j (across e.side) p ≡ Some c.in-Some-edge_at.entry.now =
     ap (λ (s : Side). edge_at j s p) (sym other) ∙ (sym c.edge_at.ensures ∙ ap (λ (o : Option (Bor (EdgeId × Edge))). option_copied o) c.in-Some-edge_at.is) in
     let to : ends_to e.pred (of_side (across e.side) q) c.in-Some-edge_at.entry.now.1 ≡ Some c.in-Some-ends_to.others.now =
-    ap (λ (n : NodeId). ends_to e.pred n c.in-Some-edge_at.entry.now.1) (sym stop) ∙ (sym c.ends_to.ensures ∙ ap (λ (o : Option (Bor (List NodeId))). option_copied o) c.in-Some-ends_to.is) in
+    ap (λ (n : NodeId). ends_to e.pred n c.in-Some-edge_at.entry.now.1) (sym stop) ∙ (sym c.ends_to.ensures
+    ∙ ap (λ (o : Option (Bor (List NodeId))). option_copied o) c.in-Some-ends_to.is) in
     let pointers : are_pointers j q ≡ true = sym c.are_pointers.ensures ∙ c.if-not-are_pointers.false in
-    let found : option_map seen_seg c.in_ok-fold.field-0 ≡ seg_fold w j e.side p e.pred (of_side e.side q) (partner_ends w j e.side e.pred (of_side e.side q) c.in-Some-ends_to.others.now) =
+    let found : option_map seen_seg c.in_ok-fold.field-0 ≡ seg_fold w j e.side p e.pred (of_side e.side q) (partner_ends w j e.side e.pred
+    (of_side e.side q) c.in-Some-ends_to.others.now) =
     c.in_ok-fold.ensures w same (tells_side w c.args.join.now c.args.ending.side t)
     ∙ ap (λ (n : NodeId). seg_fold w j e.side p e.pred n (partner_ends w j e.side e.pred n c.in-Some-ends_to.others.now)) c.of_side-stop.ensures in
     seven_at w j e p q there c.in-Some-edge_at.entry.now edge c.in-Some-ends_to.others.now to pointers (option_map seen_seg c.in_ok-fold.field-0) found
-    ∙ (ap (λ (o : Option KeptSeg). option_and_then (seg_with w j e p (as_it_is (half j (across e.side)) c.in-Some-edge_at.entry.now)) (option_map seen_seg o)) c.in-Some-2.is
+    ∙ (ap (λ (o : Option KeptSeg). option_and_then (seg_with w j e p (as_it_is (half j (across e.side)) c.in-Some-edge_at.entry.now))
+    (option_map seen_seg o)) c.in-Some-2.is
     ∙ (ap (λ (m : Part). seg_with w j e p m (seen_seg c.in-Some-2.fold)) (sym (c.in_ok-theirs.ensures (half j (across e.side))))
     ∙ same_map (seg_with w j e p (seen_part (half j (across e.side)).state c.in_ok-theirs.theirs) (seen_seg c.in-Some-2.fold))))
 
