@@ -4,3 +4,4 @@ pub mod Covers
 pub mod Joined
 pub mod Forms
 pub mod Good
+pub mod Whole

@@ -2,7 +2,9 @@
 ghost use Rattle.std.specs.Prelude.{All};
 ghost use Rattle.mc_base.specs.Ranges.Ends.{IsInt};
 ghost use Rattle.mc_replay.specs.Good.{AreGood};
+ghost use Rattle.mc_replay.specs.Joined.{seen};
 ghost use Rattle.mc_replay.specs.Named.{IsGood};
+ghost use Rattle.mc_replay.specs.Whole.{IsReached};
 
 use crate::joining::{Joining, begin};
 use crate::pairs::Pair;
@@ -28,16 +30,19 @@ pub enum Replayed {
 /// Where the join has come to its end what it gives, else whether it is stuck.
 fn answer(
     alloc: Global,
+    left: &State,
+    right: &State,
     join: Joining,
     defs: &Defs,
     round: u64,
     thresholds: &[i64],
 ) -> Result<Replayed, NoMemory>
     requires good { AreGood join }
+    requires reached { IsReached left.now right.now (seen join) }
     requires ints { All IsInt thresholds.now }
 {
     if join.next_pair().is_none() {
-        let state = joined_state(alloc, &join, round, thresholds)?;
+        let state = joined_state(alloc, left, right, &join, round, thresholds)?;
         return Ok(Replayed::Done(state));
     }
     let stuck = is_stuck(alloc, &join, defs)?;
@@ -75,5 +80,5 @@ pub fn replay(
         }
         number = number.saturating_add(1);
     }
-    answer(alloc, join, defs, round, thresholds)
+    answer(alloc, left, right, join, defs, round, thresholds)
 }
