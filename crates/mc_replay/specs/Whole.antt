@@ -1,5 +1,5 @@
 -- Whole joins, as they are made.
-use Rattle.std.specs.Prelude.{◌≡◌, ◌↔◌, ◌+◌, ◌<◌, ◌++◌, List, [], ◌∷◌, Some, None, length, drop, true}
+use Rattle.std.specs.Prelude.{◌≡◌, ◌↔◌, ◌+◌, ◌<◌, ◌++◌, List, [], Some, None, length, drop, true}
 use Rattle.std.specs.List.{AllByRecursion}
 use Rattle.mc_base.specs.declared.plain.Atom.{Atom}
 use Rattle.mc_base.specs.declared.plain.Kind.{Kind}

@@ -1,5 +1,5 @@
 // What a whole join gives.
-ghost use Rattle.std.specs.Prelude.{◌≡◌, ◌==◌, ◌&&◌, Some, None, [], ◌∷◌, All, IfOk, OnOk, drop, length, true};
+ghost use Rattle.std.specs.Prelude.{◌≡◌, ◌==◌, ◌<◌, ◌&&◌, Some, None, [], ◌∷◌, All, IfOk, OnOk, drop, length, true};
 ghost use Rattle.std.specs.List.{AllByRecursion};
 ghost use Rattle.mc_base.specs.Ranges.Ends.{IsInt};
 ghost use Rattle.mc_pure.specs.Derived.{IsFalse as IsFalsePure};
@@ -45,12 +45,7 @@ fn reached_may_be_made()
 }
 
 /// What is known on both sides, as written atoms.
-fn joint(
-    alloc: Global,
-    join: &Joining,
-    round: u64,
-    thresholds: &[i64],
-) -> Result<Pure, NoMemory>
+fn joint(alloc: Global, join: &Joining, round: u64, thresholds: &[i64]) -> Result<Pure, NoMemory>
     requires left_true { IsFalse join.now.left.state → ⊥ }
     requires right_true { IsFalse join.now.right.state → ⊥ }
     requires joinable { AreJoinable (pure_of join.now.left.state) (pure_of join.now.right.state)

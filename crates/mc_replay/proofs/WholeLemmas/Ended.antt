@@ -1,20 +1,17 @@
 -- The state with its atoms is what the join gives.
-use Rattle.std.proofs.Common.{◌≡◌, ◌<◌, ℕ, ℤ, List, [], ◌++◌, ◌&&◌, Bool, Some, slice_get, refl, sym, ap, subst, ◌∙◌, arith}
+use Rattle.std.proofs.Common.{◌≡◌, ℕ, ℤ, List, [], ◌&&◌, Bool, Some, slice_get, sym, ap, subst, ◌∙◌, arith}
 use Rattle.std.specs.List.{AllByRecursion}
 use Rattle.mc_base.specs.declared.ids.NodeId.{NodeId}
 use Rattle.mc_base.specs.declared.plain.Atom.{Atom}
-use Rattle.mc_pure.specs.Canonical.{plainly}
 use Rattle.mc_pure.specs.Derived as pure_facts
-use Rattle.mc_pure.specs.Known.{IsFit}
 use Rattle.mc_pure.specs.Pure.{Kinds, Pure, IsNode, IsWellFormed}
-use Rattle.mc_pure_ops.specs.Join.Joint.{AreJointKinds, IsJoin}
-use Rattle.mc_state.specs.Fits.{IsBounded}
+use Rattle.mc_pure_ops.specs.Join.Joint.{IsJoin}
 use Rattle.mc_state.specs.Laws.{NodesAreBelow}
 use Rattle.mc_state.specs.State.{State, next_node, pure_of, with_atoms}
 use Rattle.mc_kernel.proofs.OracleLemmas.Decided.{all_get}
 use Rattle.mc_joins.specs.Joinings.{Joining}
 use Rattle.mc_joins.specs.Same.Laws.{FalseRenamed}
-use Rattle.mc_joins.specs.Whole.{AreJointAtoms, all_used, kinds_of_pairs, over_nodes, result_of}
+use Rattle.mc_joins.specs.Whole.{AreJointAtoms, all_used, kinds_of_pairs, result_of}
 use Rattle.mc_joins.proofs.AtomsLemmas.Present.{joint_true}
 use Rattle.mc_replay.specs.Whole.{MayBeMade, SaysAll, bare_result}
 use Rattle.mc_replay.proofs.WholeLemmas.Kinds.{joint_once}

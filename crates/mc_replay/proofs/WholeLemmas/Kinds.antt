@@ -1,5 +1,5 @@
 -- Nodes that rise, with their kinds, are one list where they are the same nodes.
-use Rattle.std.proofs.Common.{◌≡◌, ◌⊎◌, ◌<◌, ◌≤◌, ℕ, suc, List, [], ◌∷◌, Some, None, refl, sym, ap, ◌∙◌, inl, inr, arith}
+use Rattle.std.proofs.Common.{◌≡◌, ◌⊎◌, ◌<◌, ◌≤◌, ℕ, suc, [], ◌∷◌, Some, None, refl, sym, ap, subst, ◌∙◌, inl, inr, arith}
 use Rattle.mc_base.specs.declared.ids.NodeId.{NodeId}
 use Rattle.mc_base.specs.declared.plain.Kind.{Kind}
 use Rattle.mc_pure.specs.Pure.{Kinds, Pure, kind_of}
@@ -55,14 +55,14 @@ rise_one low (x ∷ xs) (y ∷ ys) r q to from =
       | inr other ↦ elim other [
         | inr less ↦ absurd (not_less y x ys xs r.1 less from)
         | inl same ↦ both (same_node x.0 y.0 same)
+            (rise_one (suc x.0.0) xs ys r.1 (subst (λ (n : ℕ). RiseFrom (suc n) ys) (sym same) q.1)
+            (rest_within low x y xs ys r.1 (same_node x.0 y.0 same) to) (rest_within low y x ys xs q.1 (sym (same_node x.0 y.0 same)) from))
       ]
     ]
   where
-    both : x.0 ≡ y.0 → (x ∷ xs) ≡ (y ∷ ys)
-    both same =
-        let kinds : x.1 ≡ y.1 = some_kind (sym (to x.0 x.1 (here_kind x xs x.0 refl)) ∙ here_kind y ys x.0 (sym same)) in
-        let rest : xs ≡ ys =
-        rise_one (suc x.0.0) xs ys r.1 (rw (ap (λ (n : NodeId). n.0) same) q.1) (rest_within low x y xs ys r.1 same to) (rest_within low y x ys xs q.1 (sym same) from) in
+    both : x.0 ≡ y.0 → xs ≡ ys → (x ∷ xs) ≡ (y ∷ ys)
+    both same rest =
+        let kinds : x.1 ≡ y.1 = some_kind (sym (sym (here_kind y ys x.0 (sym same)) ∙ to x.0 x.1 (here_kind x xs x.0 refl))) in
         ap (λ (e : Entry). e ∷ xs) (entry_same x y same kinds) ∙ ap (λ (ks : Kinds). y ∷ ks) rest
 
 -- pairs have one list of kinds

@@ -1,7 +1,6 @@
 -- What is written where a node is forgotten of which nothing is known says all that is known of the others.
-use Rattle.std.proofs.Common.{◌≡◌, ◌≢◌, ◌⊎◌, ◌≤◌, ℕ, List, [], ◌∷◌, Bool, true, false, Some, None, nat_eq, slice_get, refl, sym, ap, subst, ◌∙◌, inl, inr, arith}
+use Rattle.std.proofs.Common.{◌≡◌, ◌≢◌, ◌≤◌, ℕ, pos, List, [], ◌∷◌, Some, None, slice_get, refl, sym, ap, subst, ◌∙◌, inl, inr, arith}
 use Rattle.std.specs.Prelude.{◌==◌, if◌then◌else◌}
-use Rattle.std.specs.List.{AllByRecursion}
 use Rattle.mc_base.specs.declared.ids.NodeId.{NodeId}
 use Rattle.mc_base.specs.declared.plain.Atom.{Atom}
 use Rattle.mc_base.specs.declared.plain.Atom.TheVariants.{Eq, Ne, In}
@@ -18,16 +17,16 @@ use Rattle.mc_pure.specs.Known.{IsFit, with_node}
 use Rattle.mc_pure.specs.Laws.{FollowsFromMore}
 use Rattle.mc_pure.specs.Nodes.{RiseFrom, with_kind}
 use Rattle.mc_pure.specs.Whole.{kinds_without}
-use Rattle.mc_pure.proofs.Changing.{decide, no, number, same_node, yes}
-use Rattle.mc_pure.proofs.Placing.{kind_at, place_of_kind}
+use Rattle.mc_pure.proofs.Changing.{decide, no, same_node, yes}
+use Rattle.mc_pure.proofs.Placing.{kind_at}
 use Rattle.mc_pure_ops.specs.Canon.Forgotten.{IsForgotten, IsForgottenOrFalse, without_node}
 use Rattle.mc_pure_ops.specs.Canon.Left.{LeavesOut}
-use Rattle.mc_pure_ops.proofs.JoinLemmas.Sorted.{first_kind, next_kind, head_differs, rest_none, with_other}
+use Rattle.mc_pure_ops.proofs.JoinLemmas.Sorted.{first_kind, next_kind, head_differs, rest_none, with_here, with_other}
 use Rattle.mc_rules_logic.proofs.FoldLemmas.MadeNodes.{in_kind}
 use Rattle.mc_rules_logic.proofs.FoldLemmas.WrittenOnce.{one_written}
+use Rattle.mc_kernel.proofs.OracleLemmas.Decided.{all_put}
 use Rattle.mc_joins.specs.Same.Laws.{FollowsRenamed, FalseRenamed}
 use Rattle.mc_joins.proofs.AtomsLemmas.Whole.{whole_list}
-use Rattle.mc_joins.proofs.JoinMade.{at_places}
 use Rattle.mc_replay.specs.Whole.{SaysAll}
 use Rattle.mc_replay.proofs.WholeLemmas.Kinds.{order}
 
@@ -62,12 +61,12 @@ kinds_back : (kinds : Kinds) (n : NodeId) (kind : Kind) → kind_of kinds n ≡ 
 kinds_back [] n kind e = rw (yes n.0 n.0 refl) refl
 kinds_back (k ∷ kinds) n kind e = elim (order n.0 k.0.0) [
   | inl less ↦ ap (λ (z : Kinds). kinds_without z n) (first_kind k kinds n kind less) ∙ rw (yes n.0 n.0 refl) (without_none (k ∷ kinds) n e)
-  | inr other ↦ later (elim other [ inl same ↦ omega arith | inr more ↦ omega arith ])
+  | inr other ↦ later (kinds_back kinds n kind (rest_none k kinds n e)) (elim other [ inl same ↦ omega arith | inr more ↦ omega arith ])
 ]
   where
-    later : k.0.0 ≤ n.0 → kinds_without (with_kind (k ∷ kinds) n kind) n ≡ k ∷ kinds
-    later at = ap (λ (z : Kinds). kinds_without z n) (next_kind k kinds n kind at)
-        ∙ rw (no k.0.0 n.0 (λ q. head_differs k kinds n e (same_node k.0 n q))) (ap (λ (z : Kinds). k ∷ z) (kinds_back kinds n kind (rest_none k kinds n e)))
+    later : kinds_without (with_kind kinds n kind) n ≡ kinds → k.0.0 ≤ n.0 → kinds_without (with_kind (k ∷ kinds) n kind) n ≡ k ∷ kinds
+    later rest at = ap (λ (z : Kinds). kinds_without z n) (next_kind k kinds n kind at)
+        ∙ rw (no k.0.0 n.0 (λ q. head_differs k kinds n e (same_node k.0 n q))) (ap (λ (z : Kinds). k ∷ z) rest)
 
 module _ (p : Pure) (further : NodeId) (f : Forgetting p further) where
   abbrev more : Pure
@@ -130,10 +129,7 @@ module _ (p : Pure) (further : NodeId) (f : Forgetting p further) where
 
   base_goes : (a : Atom) → Base more a → Follows p (moved_atom back a)
   base_goes a (begin.written i e) = subst (Follows p) (sym (atom_stays a (well_leaves a (f.fit.written i a e)))) (base (begin.written i e))
-  base_goes _ begin.zero = in_null
-    where
-      in_null : Follows p (moved_atom back (In null _ _))
-      in_null = subst (λ (n : NodeId). Follows p (In n _ _)) (sym null_stays) (base begin.zero)
+  base_goes _ begin.zero = subst (λ (n : NodeId). Follows p (In n (pos 0) (pos 0))) (sym null_stays) (base begin.zero)
   base_goes _ (begin.kind {n} {k} i e) = in_kind p (moved back n) k (kind_goes n k (inr (kind_at 1 more.kinds f.more_rise i n k e).0))
   base_goes _ (begin.block {a} i e) = absurd (no_start i a e)
   base_goes _ (begin.apart {a} i j ne e d) = absurd (no_start i a e)
@@ -162,7 +158,7 @@ module _ (p : Pure) (further : NodeId) (f : Forgetting p further) where
       let one : atoms ≡ w.0 =
       one_written (without_node more further atoms) (plainly p w.0) (kinds_back p.kinds further Int none) (sym f.bare) there again atoms w.0 i.listed w.1.listed in
       subst (SaysAll p) (sym one) (record {
-        well = at_places (IsWellFormed p.kinds) w.0 w.1.well;
+        well = all_put (IsWellFormed p.kinds) w.0 (λ i a e. w.1.well a (i, e));
         same = w.1.same;
         listed = w.1.listed;
       })
@@ -170,3 +166,8 @@ module _ (p : Pure) (further : NodeId) (f : Forgetting p further) where
   pub says_all : (atoms : List Atom) → IsForgottenOrFalse more further atoms → SaysAll p atoms
   says_all atoms (inl wrong) = absurd (still_true wrong.0)
   says_all atoms (inr i) = listed_all atoms i.1
+
+-- the further node is there, where it was added
+pub further_there : (p : Pure) (further : NodeId) (new : Pure) → (IsNode p.kinds further → ⊥) → new ≡ with_node p further Int → IsNode new.kinds further
+further_there p further new absent is =
+    (Int, inr (ap (λ (x : Pure). kind_of x.kinds further) is ∙ with_here p.kinds further Int (kind_none p.kinds further absent)))

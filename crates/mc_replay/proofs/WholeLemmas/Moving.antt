@@ -1,16 +1,14 @@
 -- The atoms of a join do not depend on the order of the nodes at which blocks start.
-use Rattle.std.proofs.Common.{◌≡◌, ℕ, ℤ, List, [], Some, slice_get, refl, sym, ap, subst, ◌∙◌}
+use Rattle.std.proofs.Common.{◌≡◌, ℕ, ℤ, List, ap, subst, ◌∙◌}
 use Rattle.mc_base.specs.declared.ids.NodeId.{NodeId}
 use Rattle.mc_base.specs.declared.plain.Atom.{Atom}
 use Rattle.mc_base.specs.declared.plain.Atom.TheVariants.{Eq, Ne, In}
-use Rattle.mc_pure.specs.Canonical.{IsCanonical}
-use Rattle.mc_pure.specs.Derived.{Follows, HasRange}
 use Rattle.mc_pure.specs.Laws.{FollowsFromMore, FalseFromMore}
 use Rattle.mc_pure.specs.Pure.{Pure, Kinds}
-use Rattle.mc_pure_ops.specs.Join.Joint.{Pairs, IsJoin, IsJoint, IsOfBoth, sides}
+use Rattle.mc_pure_ops.specs.Join.Joint.{Pairs, IsJoin, IsOfBoth, sides}
 use Rattle.mc_symbolic.specs.Starts.{HaveSameNodes}
 use Rattle.mc_symbolic.proofs.Canonical.{canonical_same}
-use Rattle.mc_symbolic.proofs.Starts.{turned, follows_to, follows_from, range_same}
+use Rattle.mc_symbolic.proofs.Starts.{turned, follows_to, range_same}
 
 module _ (more : FollowsFromMore) (false_more : FalseFromMore) (kinds other_kinds : Kinds) (atoms other_atoms : List Atom) (xs ys vs ws : List NodeId) (same : HaveSameNodes xs ys) (other_same : HaveSameNodes vs ws)
     (pairs : Pairs) (round : ℕ) (thresholds : List ℤ) where
@@ -95,16 +93,16 @@ pub record IsKeptAs (kept meant : Pure) : Type 0 where
   pub atoms : kept.written ≡ meant.written
   pub starts : HaveSameNodes kept.starts meant.starts
 
+abbrev as_meant : Pure → Pure → Pure
+as_meant kept meant = record { kinds = meant.kinds; written = meant.written; starts = kept.starts }
+
+is_as : (kept meant : Pure) → IsKeptAs kept meant → kept ≡ as_meant kept meant
+is_as kept meant k =
+    ap (λ (ks : Kinds). record kept { kinds = ks }) k.kinds ∙ ap (λ (fs : List Atom). record { kinds = meant.kinds; written = fs; starts = kept.starts }) k.atoms
+
 pub join_meant : FollowsFromMore → FalseFromMore → (left left_meant right right_meant : Pure) → IsKeptAs left left_meant → IsKeptAs right right_meant → (pairs : Pairs) (round : ℕ) (thresholds : List ℤ) (joint : Pure)
     → IsJoin left right pairs round thresholds joint → IsJoin left_meant right_meant pairs round thresholds joint
 join_meant more false_more left left_meant right right_meant l r pairs round thresholds joint j =
     join_after more false_more left_meant.kinds right_meant.kinds left_meant.written right_meant.written left.starts left_meant.starts right.starts right_meant.starts l.starts r.starts pairs round thresholds joint
     (subst (λ (x : Pure). IsJoin x (as_meant right right_meant) pairs round thresholds joint) (is_as left left_meant l)
     (subst (λ (y : Pure). IsJoin left y pairs round thresholds joint) (is_as right right_meant r) j))
-  where
-    abbrev as_meant : Pure → Pure → Pure
-    as_meant kept meant = record { kinds = meant.kinds; written = meant.written; starts = kept.starts }
-
-    is_as : (kept meant : Pure) → IsKeptAs kept meant → kept ≡ as_meant kept meant
-    is_as kept meant k =
-        ap (λ (ks : Kinds). record kept { kinds = ks }) k.kinds ∙ ap (λ (fs : List Atom). record { kinds = meant.kinds; written = fs; starts = kept.starts }) k.atoms

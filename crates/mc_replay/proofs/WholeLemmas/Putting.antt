@@ -1,8 +1,9 @@
 -- Nodes, variables and edges that are put into the result one after the other.
-use Rattle.std.proofs.Common.{◌≡◌, ◌<◌, ◌≤◌, ◌+◌, ◌++◌, ℕ, zero, suc, List, [], ◌∷◌, Bool, true, false, Option, Some, None, append_assoc, drop, get_or, length, take, refl, sym, ap, ap₂, subst, ◌∙◌, arith}
+use Rattle.std.proofs.Common.{◌≡◌, ◌<◌, ◌≤◌, ◌+◌, ◌++◌, ℕ, zero, suc, List, [], ◌∷◌, true, false, Option, Some, None, drop, get_or, length, take, refl, sym, ap, ap₂, subst, ◌∙◌, arith}
 use Rattle.std.specs.Prelude.{◌==◌, filter, option_map, option_to_list, slice_set}
 use Rattle.std.specs.List.{AllByRecursion}
-use Rattle.std.proofs.lemmas.List.{drop_more}
+use Rattle.std.proofs.lemmas.Bool.{ne_eqb}
+use Rattle.std.proofs.lemmas.List.{drop_more, length-replicate}
 use Rattle.mc_base.specs.declared.ids.EdgeId.{EdgeId}
 use Rattle.mc_base.specs.declared.ids.NodeId.{NodeId}
 use Rattle.mc_base.specs.declared.plain.Kind.{Kind}
@@ -13,13 +14,13 @@ use Rattle.mc_state.specs.Fits.{AreNodes}
 use Rattle.mc_state.specs.Graph.Edges.{known_nodes, nodes_of}
 use Rattle.mc_state.specs.Graph.Graph.{Edges, IdsAscend, numbered}
 use Rattle.mc_state.specs.Named.{others, is_among}
-use Rattle.mc_state.specs.State.{State, unknown, with_edges, with_nodes, with_var}
+use Rattle.mc_state.specs.State.{State, unknown, with_edges, with_var}
 use Rattle.mc_cover.specs.Search.Setting.{is_unused}
 use Rattle.mc_cover.proofs.SearchLemmas.Left.{others_are}
 use Rattle.mc_joins.specs.Joinings.{Joining, Pair}
 use Rattle.mc_joins.specs.Steps.{known_for}
-use Rattle.mc_joins.specs.Whole.{kind_of_pair, kinds_from, kinds_of_pairs, result_of}
-use Rattle.mc_replay.specs.Whole.{HasPairKind, with_pair_nodes, bare_result}
+use Rattle.mc_joins.specs.Whole.{kind_of_pair, kinds_from, kinds_of_pairs}
+use Rattle.mc_replay.specs.Whole.{HasPairKind, MayBeMade, with_pair_nodes, bare_result}
 use Rattle.mc_replay.proofs.Finding.{drop_none}
 
 shift : {X : Type 0} (xs : List X) (x : X) (ys : List X) → xs ++ (x ∷ ys) ≡ (xs ++ x ∷ []) ++ ys
@@ -41,9 +42,6 @@ module _ (j : Joining) where
   step_kinds n p ps kind e =
       ap (λ (o : Option Kind). option_to_list (option_map (λ (k : Kind). let x : NodeId × Kind = (record { 0 = n }, k) in x) o) ++ kinds_from j (suc n) ps) e
 
-  pub node_put : (s new : State) (p : Pair) (kind : Kind) → kind_of_pair j p ≡ Some kind → new ≡ with_nodes s (kind ∷ []) → new ≡ with_pair_nodes j s (p ∷ [])
-  node_put s new p kind e is = is ∙ ap (λ (ks : Kinds). grown s (s.kinds ++ ks) (s.next + 1)) (sym (step_kinds s.next p [] kind e))
-
   -- one pair after the other
   one_more : (s : State) (p : Pair) (ps : Pairs) → HasPairKind j p → with_pair_nodes j s (p ∷ ps) ≡ with_pair_nodes j (with_pair_nodes j s (p ∷ [])) ps
   one_more s p ps (kind, e) =
@@ -62,12 +60,11 @@ module _ (j : Joining) where
   none_more : (s : State) → with_pair_nodes j s [] ≡ s
   none_more s = let next : s.next + 0 ≡ s.next = omega arith in ap₂ (λ (ks : Kinds) (n : ℕ). grown s ks n) (none_after s.kinds) next
 
-  pub nodes_more : (begin s new : State) (ps all : Pairs) (i : ℕ) (p : Pair) → i < length ps → p ≡ get_or ps i p → HasPairKind j p → new ≡ with_pair_nodes j s (p ∷ [])
+  pub nodes_more : (begin s new : State) (ps all : Pairs) (i : ℕ) (d : Pair) → i < length ps → HasPairKind j (get_or ps i d) → new ≡ with_pair_nodes j s (get_or ps i d ∷ [])
       → with_pair_nodes j s (drop i ps) ≡ with_pair_nodes j begin all → with_pair_nodes j new (drop (i + 1) ps) ≡ with_pair_nodes j begin all
-  nodes_more begin s new ps all i p l item has is h =
+  nodes_more begin s new ps all i d l has is h =
       ap (λ (z : State). with_pair_nodes j z (drop (i + 1) ps)) is
-      ∙ (sym (one_more s p (drop (i + 1) ps) has)
-      ∙ (ap (λ (z : Pairs). with_pair_nodes j s z) (ap (λ (z : Pair). z ∷ drop (i + 1) ps) item ∙ sym (drop_more ps i p l)) ∙ h))
+      ∙ (sym (one_more s (get_or ps i d) (drop (i + 1) ps) has) ∙ (ap (λ (z : Pairs). with_pair_nodes j s z) (sym (drop_more ps i d l)) ∙ h))
 
   pub nodes_end : (begin s : State) (ps all : Pairs) (i : ℕ) → length ps ≤ i → with_pair_nodes j s (drop i ps) ≡ with_pair_nodes j begin all → s ≡ with_pair_nodes j begin all
   nodes_end begin s ps all i l h = sym (none_more s) ∙ (ap (λ (z : Pairs). with_pair_nodes j s z) (sym (drop_none ps i l)) ∙ h)
@@ -124,32 +121,6 @@ known_at kinds (Some m ∷ env) (suc i) d l h n e = known_at kinds env i d (omeg
 
 -- ---- edges
 
-edge_more : (s : State) (e : Edge) (es : List Edge) → with_edges s (e ∷ es) ≡ with_edges (with_edges s (e ∷ [])) es
-edge_more s e es =
-    let g = s.graph in
-    let id : EdgeId = record { 0 = g.next } in
-    let here : EdgeId × Edge = (id, e) in
-    let later : suc g.next ≡ g.next + 1 = omega arith in
-    let next : g.next + suc (length es) ≡ (g.next + 1) + length es = omega arith in
-    let edges : g.edges ++ (here ∷ numbered (suc g.next) es) ≡ (g.edges ++ here ∷ []) ++ numbered (g.next + 1) es =
-    shift g.edges here (numbered (suc g.next) es) ∙ ap (λ (n : ℕ). (g.edges ++ here ∷ []) ++ numbered n es) later in
-    ap₂ (λ (xs : Edges) (n : ℕ). record s { graph = record { edges = xs; next = n } }) edges next
-
-no_edge : (s : State) → with_edges s [] ≡ s
-no_edge s =
-    let next : s.graph.next + 0 ≡ s.graph.next = omega arith in
-    ap₂ (λ (xs : Edges) (n : ℕ). record s { graph = record { edges = xs; next = n } }) (none_after s.graph.edges) next
-
-pub edges_more : (begin s new : State) (es : List Edge) (i : ℕ) (x e : Edge) → i < length es → x ≡ get_or es i x → e ≡ x → new ≡ with_edges s (e ∷ [])
-    → with_edges s (drop i es) ≡ with_edges begin es → with_edges new (drop (i + 1) es) ≡ with_edges begin es
-edges_more begin s new es i x e l item copy is h =
-    ap (λ (z : State). with_edges z (drop (i + 1) es)) is
-    ∙ (sym (edge_more s e (drop (i + 1) es))
-    ∙ (ap (λ (z : List Edge). with_edges s z) (ap (λ (z : Edge). z ∷ drop (i + 1) es) (copy ∙ item) ∙ sym (drop_more es i x l)) ∙ h))
-
-pub edges_end : (begin s : State) (es : List Edge) (i : ℕ) → length es ≤ i → with_edges s (drop i es) ≡ with_edges begin es → s ≡ with_edges begin es
-edges_end begin s es i l h = sym (no_edge s) ∙ (ap (λ (z : List Edge). with_edges s z) (sym (drop_none es i l)) ∙ h)
-
 -- what holds of numbered edges holds of the edges
 pub not_numbered : (P : Edge → Type 0) (n : ℕ) (es : List Edge) → AllByRecursion (λ (e : EdgeId × Edge). P e.1) (numbered n es) → AllByRecursion P es
 not_numbered P n [] a = tt
@@ -173,15 +144,33 @@ kinds_put j s new vars l e is =
     ∙ ap₂ (λ (ks : Kinds) (n : ℕ). record (unknown vars) { kinds = ks; next = n }) (kinds_first j j.pairs l) (long_first j.pairs l))
 
 -- what a join gives without atoms is put together
-module _ (left right : State) (j : Joining) (env : List (Option NodeId)) where
-  pub bare_put : (s nodes vars edges : State) → env ≡ known_for j.pairs left.env right.env → 0 < length j.pairs → s ≡ unknown (length env) → nodes ≡ with_pair_nodes j s (drop 1 j.pairs)
-      → vars ≡ record nodes { env = env } → edges ≡ with_edges vars j.edges → edges ≡ bare_result left right j
-  bare_put s nodes vars edges known l e n v is =
-      let placed : vars ≡ record (unknown (length env)) { env = env; kinds = kinds_of_pairs j j.pairs; next = length j.pairs } =
-      v ∙ ap (λ (z : State). record z { env = env }) (kinds_put j s nodes (length env) l e n) in
+module _ (left right : State) (j : Joining) (ready : MayBeMade left right j) (env : List (Option NodeId)) (s nodes : State) (known : env ≡ known_for j.pairs left.env right.env) (begin : s ≡ unknown (length env))
+    (put : nodes ≡ with_pair_nodes j s (drop 1 j.pairs)) where
+  placed : nodes ≡ record (unknown (length env)) { kinds = kinds_of_pairs j j.pairs; next = length j.pairs }
+  placed = kinds_put j s nodes (length env) ready.first begin put
+
+  kinds_are : nodes.kinds ≡ kinds_of_pairs j j.pairs
+  kinds_are = ap (λ (z : State). z.kinds) placed
+
+  pub env_long : length nodes.env ≡ length env
+  env_long = ap (λ (z : State). length z.env) placed ∙ length-replicate (length env) None
+
+  pub vars_there : AreNodes nodes.kinds (known_nodes env)
+  vars_there =
+      subst (λ (ks : Kinds). AreNodes ks (known_nodes env)) (sym kinds_are)
+      (subst (λ (xs : List (Option NodeId)). AreNodes (kinds_of_pairs j j.pairs) (known_nodes xs)) (sym known) ready.bounded.vars)
+
+  pub edges_there : (vars : State) → vars ≡ record nodes { env = env } → AllByRecursion (λ (e : Edge). AreNodes vars.kinds (nodes_of e)) j.edges
+  edges_there vars v =
+      subst (λ (ks : Kinds). AllByRecursion (λ (e : Edge). AreNodes ks (nodes_of e)) j.edges) (sym (ap (λ (z : State). z.kinds) v ∙ kinds_are))
+      (not_numbered (λ (e : Edge). AreNodes (kinds_of_pairs j j.pairs) (nodes_of e)) 0 j.edges ready.bounded.edges)
+
+  pub bare_put : (vars edges : State) → vars ≡ record nodes { env = env } → edges ≡ with_edges vars j.edges → edges ≡ bare_result left right j
+  bare_put vars edges v is =
+      let all : vars ≡ record (unknown (length env)) { env = env; kinds = kinds_of_pairs j j.pairs; next = length j.pairs } = v ∙ ap (λ (z : State). record z { env = env }) placed in
       let long : 0 + length j.edges ≡ length j.edges = omega arith in
       is
-      ∙ (ap (λ (z : State). with_edges z j.edges) placed
+      ∙ (ap (λ (z : State). with_edges z j.edges) all
       ∙ ap₂ (λ (xs : List (Option NodeId)) (m : ℕ). record (bare_result left right j) { env = xs; graph = record { edges = numbered 0 j.edges; next = m } }) known long)
 
 -- ---- edges that are left out
@@ -199,7 +188,7 @@ module _ (used : List EdgeId) where
       h ∙ (ap (λ (z : Edges). filter (is_unused used) z) (drop_more es i e l ∙ ap (λ (z : EdgeId × Edge). z ∷ drop (i + 1) es) (sym item)) ∙ not_left_out e (drop (i + 1) es) is)
 
   none_zero : (n : ℕ) → false ≡ (suc n == 0)
-  none_zero n = refl
+  none_zero n = sym (ne_eqb (suc n) 0 (let differ : suc n ≡ 0 → ⊥ = λ q. omega arith in differ))
 
   pub one_left_out : (es : Edges) (high i : ℕ) (e : EdgeId × Edge) → IdsAscend 0 es high → i < length es → e ≡ get_or es i e → is_among e.0 used ≡ false
       → filter (is_unused used) es ≡ filter (is_unused used) (drop i es) → false ≡ (length (others es used) == 0)
@@ -207,9 +196,14 @@ module _ (used : List EdgeId) where
       let some : others es used ≡ e ∷ filter (is_unused used) (drop (i + 1) es) =
       others_are es high used a
       ∙ (h ∙ (ap (λ (z : Edges). filter (is_unused used) z) (drop_more es i e l ∙ ap (λ (z : EdgeId × Edge). z ∷ drop (i + 1) es) (sym item)) ∙ left_out e (drop (i + 1) es) is)) in
-      ap (λ (z : Edges). length z == 0) (sym some)
+      none_zero (length (filter (is_unused used) (drop (i + 1) es))) ∙ ap (λ (z : Edges). length z == 0) (sym some)
 
   pub all_are_used : (es : Edges) (high i : ℕ) → IdsAscend 0 es high → length es ≤ i → filter (is_unused used) es ≡ filter (is_unused used) (drop i es) → true ≡ (length (others es used) == 0)
   all_are_used es high i a l h =
       let none : others es used ≡ [] = others_are es high used a ∙ (h ∙ ap (λ (z : Edges). filter (is_unused used) z) (drop_none es i l)) in
       ap (λ (z : Edges). length z == 0) (sym none)
+
+-- the same of equal lists
+pub known_same : (slice env : List (Option NodeId)) (ps qs : Pairs) (ls ms rs ns : List (Option NodeId)) → slice ≡ env → ps ≡ qs → ls ≡ ms → rs ≡ ns → env ≡ known_for ps ls rs → slice ≡ known_for qs ms ns
+known_same slice env ps qs ls ms rs ns e p l r is =
+    e ∙ (is ∙ (ap (λ (z : Pairs). known_for z ls rs) p ∙ ap₂ (λ (x y : List (Option NodeId)). known_for qs x y) l r))

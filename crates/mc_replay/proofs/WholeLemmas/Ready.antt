@@ -1,14 +1,12 @@
 -- What steps lead to may be put together.
-use Rattle.std.proofs.Common.{◌≡◌, ◌<◌, ℕ, List, [], ◌∷◌, Option, Some, None, drop, length, refl, sym, ap, subst, arith}
+use Rattle.std.proofs.Common.{◌<◌, [], ◌∷◌, drop, length, refl, sym, ap, subst, arith}
 use Rattle.std.specs.List.{AllByRecursion}
-use Rattle.mc_base.specs.declared.ids.NodeId.{NodeId}
-use Rattle.mc_base.specs.Nodes.{null}
 use Rattle.mc_pure.specs.Pure.{Kinds}
 use Rattle.mc_pure_ops.specs.Join.Joint.{Pairs, AreJointKinds}
 use Rattle.mc_state.specs.Laws.{NewNodesHaveKinds}
 use Rattle.mc_state.specs.State.{pure_of}
 use Rattle.mc_state.specs.Told.{KindIsTold}
-use Rattle.mc_joins.specs.Joinings.{Joining, Pair, begun}
+use Rattle.mc_joins.specs.Joinings.{Joining, begun}
 use Rattle.mc_joins.specs.Same.Laws.{FalseRenamed}
 use Rattle.mc_joins.specs.Whole.{kinds_of_pairs, result_of}
 use Rattle.mc_joins.proofs.AtomsLemmas.Consistent.{KnownLaws, both_good}
