@@ -1,4 +1,6 @@
 pub mod Finding
 pub mod NamedLemmas
 pub mod Pairing
+pub mod StepLists
+pub mod FoldLemmas
 pub mod WholeLemmas

@@ -4,4 +4,6 @@ pub mod Covers
 pub mod Joined
 pub mod Forms
 pub mod Good
+pub mod Folds
+pub mod Steps
 pub mod Whole
