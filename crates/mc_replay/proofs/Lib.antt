@@ -4,3 +4,4 @@ pub mod Pairing
 pub mod StepLists
 pub mod FoldLemmas
 pub mod WholeLemmas
+pub mod ReplayLemmas

@@ -7,3 +7,4 @@ pub mod Good
 pub mod Folds
 pub mod Steps
 pub mod Whole
+pub mod Replayed

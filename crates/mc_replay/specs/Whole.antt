@@ -21,26 +21,30 @@ use Rattle.mc_joins.specs.Laws.{KnowsMade}
 use Rattle.mc_joins.specs.Steps.{after_steps}
 use Rattle.mc_joins.specs.Whole.{kind_of_pair, kinds_from, kinds_of_pairs, result_of}
 
--- steps lead to this join from two states that are well made and not false
-pub record IsReached (left right : State) (j : Joining) : Type 0 where
-  pub defs : List Def
+-- two states that are well made for one program, and not false
+pub record MayJoin (defs : List Def) (left right : State) : Type 0 where
   pub vars : List VarInfo
   pub structs : List StructInfo
-  pub know : State → Test
-  pub steps : List JoinStep
-  pub knows : KnowsMade defs vars structs know
   pub left_made : IsWellMade defs vars structs left
   pub right_made : IsWellMade defs vars structs right
   pub left_consistent : IsFalse left → ⊥
   pub right_consistent : IsFalse right → ⊥
+
+-- steps lead from two such states to this join, by tests that tell what is entailed in states of their program
+pub record IsReached (left right : State) (j : Joining) : Type 0 where
+  pub defs : List Def
+  pub states : MayJoin defs left right
+  pub know : State → Test
+  pub knows : KnowsMade defs states.vars states.structs know
+  pub steps : List JoinStep
   pub leads : after_steps (record { know = know; defs = defs }) (begun left right) steps ≡ Some j
 
 -- the pair has a kind
 abbrev pub HasPairKind : Joining → Pair → Type 0
 HasPairKind j p = (kind : Kind) × (kind_of_pair j p ≡ Some kind)
 
--- what a join gives may be put together: its sides may be joined, each pair but the first has a kind, and all nodes that variables and
--- edges name are there
+-- what a join gives may be put together: its sides may be joined, each pair but the first has a kind, and all nodes that
+-- variables and edges name are there
 pub record MayBeMade (left right : State) (j : Joining) : Type 0 where
   pub left_consistent : IsFalse j.left.state → ⊥
   pub right_consistent : IsFalse j.right.state → ⊥
@@ -62,8 +66,8 @@ with_pair_nodes j s ps = record s { kinds = s.kinds ++ kinds_from j s.next ps; n
 abbrev pub bare_result : State → State → Joining → State
 bare_result left right j = record (result_of left right j []) { whole = true }
 
--- these atoms may be written of the nodes, say all that follows, and are the canonical list of it, with the disequalities inside one
--- class
+-- these atoms may be written of the nodes, say all that follows, and are the canonical list of it, with the disequalities
+-- inside one class
 pub record SaysAll (p : Pure) (atoms : List Atom) : Type 0 where
   pub well : AllByRecursion (IsWellFormed p.kinds) atoms
   pub same : (f : Atom) → Follows (plainly p atoms) f ↔ Follows p f
