@@ -8,29 +8,28 @@ use Rattle.mc_state.specs.State.{State}
 use Rattle.mc_joins.specs.Joinings.{Joining, begun}
 use Rattle.mc_joins.specs.Parts.{Basis}
 use Rattle.mc_joins.specs.Steps.{after_step, after_steps}
-use Rattle.mc_joins.specs.Whole.{Joins}
 use Rattle.mc_replay.specs.declared.answers.Replayed.{Replayed}
 use Rattle.mc_replay.specs.declared.answers.Replayed.TheVariants.{Done, Open, Wrong}
 use Rattle.mc_replay.specs.declared.joining.Joining.{Joining as Kept}
 use Rattle.mc_replay.specs.Good.{AreGood}
 use Rattle.mc_replay.specs.Joined.{seen}
 use Rattle.mc_replay.specs.Named.{IsGood, TellsFrom}
-use Rattle.mc_replay.specs.Replayed.{IsAnswer, IsReplay, IsWrong, TellsOf, TestsAreThere}
+use Rattle.mc_replay.specs.Replayed.{IsAnswer, IsReplay, IsWrong, TestsAreThere}
 use Rattle.mc_replay.specs.Steps.{ComesTo, ForTests, TellsBoth}
-use Rattle.mc_replay.specs.Whole.{IsReached, MayJoin}
+use Rattle.mc_replay.specs.Whole.{IsReached, MayJoin, TellsOf}
 
 -- ---- the beginning
 
 pub both_good : (defs : List Def) (left right : State) (j : Kept) → MayJoin defs left right → j.left.state ≡ left → j.right.state ≡ right → AreGood j
 both_good defs left right j m l r = record {
-  left = subst IsGood (sym l) (record { made = (defs, m.vars, m.structs, m.left_made); consistent = m.left_consistent });
-  right = subst IsGood (sym r) (record { made = (defs, m.vars, m.structs, m.right_made); consistent = m.right_consistent });
+  left = subst IsGood (sym l) (record { made = (defs, m.program.vars, m.program.structs, m.program.left_made); consistent = m.left_consistent });
+  right = subst IsGood (sym r) (record { made = (defs, m.program.vars, m.program.structs, m.program.right_made); consistent = m.right_consistent });
 }
 
 pub both_told : (w : Basis) (left right : State) (j : Kept) → TellsOf w left right → j.left.state ≡ left → j.right.state ≡ right → TellsBoth w j
 both_told w left right j t l r = record {
-  left = subst (TellsFrom w) (sym l) (record { vars = t.vars; structs = t.structs; knows = t.knows; made = t.left_made });
-  right = subst (TellsFrom w) (sym r) (record { vars = t.vars; structs = t.structs; knows = t.knows; made = t.right_made });
+  left = subst (TellsFrom w) (sym l) (record { vars = t.program.vars; structs = t.program.structs; knows = t.knows; made = t.program.left_made });
+  right = subst (TellsFrom w) (sym r) (record { vars = t.program.vars; structs = t.program.structs; knows = t.knows; made = t.program.right_made });
 }
 
 -- ---- one step more
@@ -102,15 +101,16 @@ module _ (defs : List Def) (left right : State) (states : MayJoin defs left righ
 
   pub is_reached : TestsAreThere → IsReached left right (seen j)
   is_reached tests =
-      let test = tests defs states.vars states.structs in
-      let w : Basis = record { know = test.0; defs = defs } in
+      let test = tests defs states.program.vars states.program.structs in
+      let basis : Basis = record { know = test.0; defs = defs } in
+      let tells : TellsOf basis left right = record { program = states.program; knows = test.1 } in
       record {
-        defs = defs;
-        states = states;
-        know = test.0;
-        knows = test.1;
+        w = basis;
+        tells = tells;
+        left_consistent = states.left_consistent;
+        right_consistent = states.right_consistent;
         steps = steps;
-        leads = (leads_all w refl (record { vars = states.vars; structs = states.structs; knows = test.1; left_made = states.left_made; right_made = states.right_made })).0;
+        leads = (leads_all basis refl tells).0;
       }
 
   module _ (round : ℕ) (thresholds : List ℤ) where

@@ -5,7 +5,6 @@ use Rattle.mc_flow.specs.declared.defs.rules.Def.{Def}
 use Rattle.mc_flow.specs.declared.defs.shapes.StructInfo.{StructInfo}
 use Rattle.mc_pure_ops.specs.Join.Joint.{Pairs}
 use Rattle.mc_state.specs.declared.line.JoinStep.{JoinStep}
-use Rattle.mc_state.specs.Fits.{IsWellMade}
 use Rattle.mc_state.specs.Known.{Test}
 use Rattle.mc_state.specs.State.{State}
 use Rattle.mc_joins.specs.Joinings.{Joining, begun, next_pair}
@@ -16,15 +15,7 @@ use Rattle.mc_joins.specs.Whole.{AreJointAtoms, Joins, result_of}
 use Rattle.mc_replay.specs.declared.answers.Replayed.{Replayed}
 use Rattle.mc_replay.specs.declared.answers.Replayed.TheVariants.{Done, Open, Wrong}
 
--- the tests tell what is entailed in states of a program, of which both states are
-pub record TellsOf (w : Basis) (left right : State) : Type 0 where
-  pub vars : List VarInfo
-  pub structs : List StructInfo
-  pub knows : KnowsMade w.defs vars structs w.know
-  pub left_made : IsWellMade w.defs vars structs left
-  pub right_made : IsWellMade w.defs vars structs right
-
--- each program has such tests
+-- each program has tests that tell what is entailed in its states
 abbrev pub TestsAreThere : Type 0
 TestsAreThere =
     (defs : List Def) (vars : List VarInfo) (structs : List StructInfo) → (know : State → Test) × KnowsMade defs vars structs know

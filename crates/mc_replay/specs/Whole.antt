@@ -14,30 +14,39 @@ use Rattle.mc_pure_ops.specs.Join.Joint.{Pairs, AreJoinable, AreJointKinds}
 use Rattle.mc_state.specs.declared.line.JoinStep.{JoinStep}
 use Rattle.mc_state.specs.Facts.{IsFalse}
 use Rattle.mc_state.specs.Fits.{IsBounded, IsWellMade}
-use Rattle.mc_state.specs.Known.{Test}
 use Rattle.mc_state.specs.State.{State, pure_of}
 use Rattle.mc_joins.specs.Joinings.{Joining, Pair, begun, next_pair}
 use Rattle.mc_joins.specs.Laws.{KnowsMade}
+use Rattle.mc_joins.specs.Parts.{Basis}
 use Rattle.mc_joins.specs.Steps.{after_steps}
 use Rattle.mc_joins.specs.Whole.{kind_of_pair, kinds_from, kinds_of_pairs, result_of}
 
--- two states that are well made for one program, and not false
-pub record MayJoin (defs : List Def) (left right : State) : Type 0 where
+-- two states that are well made for one program
+pub record AreOfOne (defs : List Def) (left right : State) : Type 0 where
   pub vars : List VarInfo
   pub structs : List StructInfo
   pub left_made : IsWellMade defs vars structs left
   pub right_made : IsWellMade defs vars structs right
+
+-- and not false
+pub record MayJoin (defs : List Def) (left right : State) : Type 0 where
+  pub program : AreOfOne defs left right
   pub left_consistent : IsFalse left → ⊥
   pub right_consistent : IsFalse right → ⊥
 
--- steps lead from two such states to this join, by tests that tell what is entailed in states of their program
+-- the tests tell what is entailed in states of a program, of which both states are
+pub record TellsOf (w : Basis) (left right : State) : Type 0 where
+  pub program : AreOfOne w.defs left right
+  pub knows : KnowsMade w.defs program.vars program.structs w.know
+
+-- steps lead to this join from two states that may be joined
 pub record IsReached (left right : State) (j : Joining) : Type 0 where
-  pub defs : List Def
-  pub states : MayJoin defs left right
-  pub know : State → Test
-  pub knows : KnowsMade defs states.vars states.structs know
+  pub w : Basis
+  pub tells : TellsOf w left right
+  pub left_consistent : IsFalse left → ⊥
+  pub right_consistent : IsFalse right → ⊥
   pub steps : List JoinStep
-  pub leads : after_steps (record { know = know; defs = defs }) (begun left right) steps ≡ Some j
+  pub leads : after_steps w (begun left right) steps ≡ Some j
 
 -- the pair has a kind
 abbrev pub HasPairKind : Joining → Pair → Type 0

@@ -4,9 +4,9 @@ ghost use Rattle.mc_base.specs.Ranges.Ends.{IsInt};
 ghost use Rattle.mc_joins.specs.Parts.{Basis};
 ghost use Rattle.mc_replay.specs.Good.{AreGood};
 ghost use Rattle.mc_replay.specs.Joined.{seen};
-ghost use Rattle.mc_replay.specs.Replayed.{IsAnswer, IsReplay, TellsOf, TestsAreThere};
+ghost use Rattle.mc_replay.specs.Replayed.{IsAnswer, IsReplay, TestsAreThere};
 ghost use Rattle.mc_replay.specs.Steps.{ForTests};
-ghost use Rattle.mc_replay.specs.Whole.{IsReached, MayJoin};
+ghost use Rattle.mc_replay.specs.Whole.{IsReached, MayJoin, TellsOf};
 
 use crate::joining::{Joining, begin};
 use crate::pairs::Pair;

@@ -1,12 +1,12 @@
 // What a whole join gives.
-ghost use Rattle.std.specs.Prelude.{◌≡◌, ◌==◌, ◌<◌, ◌&&◌, Some, None, [], ◌∷◌, All, IfOk, OnOk, drop, length, true};
+ghost use Rattle.std.specs.Prelude.{◌≡◌, ◌==◌, ◌<◌, ◌&&◌, None, [], ◌∷◌, All, IfOk, OnOk, drop, length};
 ghost use Rattle.std.specs.List.{AllByRecursion};
 ghost use Rattle.mc_base.specs.Ranges.Ends.{IsInt};
 ghost use Rattle.mc_pure.specs.Derived.{IsFalse as IsFalsePure};
 ghost use Rattle.mc_pure.specs.Pure.{IsNode, IsWellFormed};
 ghost use Rattle.mc_pure_ops.specs.Join.Joint.{AreJoinable, IsJoin};
 ghost use Rattle.mc_state.specs.Facts.{IsFalse};
-ghost use Rattle.mc_state.specs.Fits.{AreNodes, IsBounded};
+ghost use Rattle.mc_state.specs.Fits.{AreNodes};
 ghost use Rattle.mc_state.specs.Graph.Edges.{known_nodes, nodes_of};
 ghost use Rattle.mc_state.specs.State.{pure_of, with_atoms, with_edges};
 ghost use Rattle.mc_cover.specs.Search.Setting.{free_edges};

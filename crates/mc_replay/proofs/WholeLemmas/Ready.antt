@@ -23,13 +23,14 @@ have_kinds j none (p ∷ ps) a = ((a.0.0.0, pair_kind j none p a.0.0.0 a.0.0.1 a
 
 pub may_be_made : KnownLaws → NewNodesHaveKinds → KindIsTold → FalseRenamed → ReachedMayBeMade
 may_be_made laws new_kinds told renamed left right j r done =
-    let i = steps_inv r.defs r.states.vars r.states.structs left right laws.judged laws.stays new_kinds told r.know r.knows r.steps (begun left right) j
-    (begun_inv r.defs r.states.vars r.states.structs left right r.states.left_made r.states.right_made) r.leads in
-    let good = both_good laws r.defs r.states.vars r.states.structs r.know r.knows left right r.steps j (r.states.left_made, r.states.left_consistent) (r.states.right_made, r.states.right_consistent) r.leads in
+    let m = r.tells.program in
+    let i = steps_inv r.w.defs m.vars m.structs left right laws.judged laws.stays new_kinds told r.w.know r.tells.knows r.steps (begun left right) j
+    (begun_inv r.w.defs m.vars m.structs left right m.left_made m.right_made) r.leads in
+    let good = both_good laws r.w.defs m.vars m.structs r.w.know r.tells.knows left right r.steps j (m.left_made, r.left_consistent) (m.right_made, r.right_consistent) r.leads in
     let none = no_null 1 j.left.state.kinds j.left.state.next (omega arith) i.left_made.bounded.kinds in
-    let there = joins_are_there laws new_kinds told renamed r.defs r.states.vars r.states.structs r.know 1 [] left right r.steps j r.knows
-    r.states.left_made r.states.right_made r.states.left_consistent r.states.right_consistent r.leads done in
-    let made = result_made r.defs r.states.vars r.states.structs left right j i done 1 [] (result_of left right j there.0) refl there.1 r.states.left_made r.states.right_made in
+    let there = joins_are_there laws new_kinds told renamed r.w.defs m.vars m.structs r.w.know 1 [] left right r.steps j r.tells.knows
+    m.left_made m.right_made r.left_consistent r.right_consistent r.leads done in
+    let made = result_made r.w.defs m.vars m.structs left right j i done 1 [] (result_of left right j there.0) refl there.1 m.left_made m.right_made in
     record {
       left_consistent = good.0.1;
       right_consistent = good.1.1;

@@ -4,8 +4,8 @@ use Rattle.mc_joins.specs.Parts.{Basis}
 use Rattle.mc_joins.specs.Steps.{after_steps}
 use Rattle.mc_replay.specs.Good.{AreGood}
 use Rattle.mc_replay.specs.Joined.{seen}
-use Rattle.mc_replay.specs.Replayed.{TellsOf}
 use Rattle.mc_replay.specs.Steps.{TellsBoth}
+use Rattle.mc_replay.specs.Whole.{TellsOf}
 use Rattle.mc_replay.proofs.answers.replay.Given as goal
 
 abbrev pub invariant-loop-place : goal.invariant-loop-place
