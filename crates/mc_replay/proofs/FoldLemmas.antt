@@ -6,29 +6,27 @@ use Rattle.mc_base.specs.declared.ids.NodeId.{NodeId}
 use Rattle.mc_base.specs.declared.ids.PredId.{PredId}
 use Rattle.mc_flow.specs.declared.defs.rules.Def.{Def}
 use Rattle.mc_state.specs.Graph.Graph.{Edges}
-use Rattle.mc_state.specs.declared.graph.edge.Edge.TheVariants.{Ind, Seg}
+use Rattle.mc_state.specs.declared.graph.edge.Edge.TheVariants.{Seg}
 use Rattle.mc_state.specs.declared.line.Side.{Side}
 use Rattle.mc_state.specs.declared.line.Side.TheVariants.{Left, Right}
 use Rattle.mc_state.specs.declared.terms.Term.{Term}
-use Rattle.mc_state.specs.Graph.Graph.{Graph}
 use Rattle.mc_state.specs.Known.{Test, Tells}
-use Rattle.mc_state.specs.Named.{others}
 use Rattle.mc_state.specs.State.{State}
 use Rattle.mc_state.specs.Terms.{plain}
 use Rattle.mc_cover.specs.First.{Choice, first_cover, first_seg_cover}
 use Rattle.mc_cover.specs.Goals.{Stop}
 use Rattle.mc_cover.specs.Guessed.{first_edge, guess, summary_of}
 use Rattle.mc_cover.specs.Search.Setting.{free_edges}
-use Rattle.mc_joins.specs.Joinings.{Half, Joining, Pair, half, of_side}
+use Rattle.mc_joins.specs.Joinings.{Half, Joining, Pair, across, half, of_side}
 use Rattle.mc_joins.specs.Joinings.{free_edges as foldable_edges}
 use Rattle.mc_joins.specs.Parts.{Basis, Named, Part, nodes_of_args, guessed, standing_args, ended_part, folded_ind, guessed_seg}
+use Rattle.mc_joins.specs.Steps.{joined, joined_from}
 use Rattle.mc_replay.specs.declared.joining.Half.{Half as KeptHalf}
 use Rattle.mc_replay.specs.declared.joining.Joining.{Joining as Kept}
 use Rattle.mc_replay.specs.Covers.{edges_of, zeros_of}
-use Rattle.mc_replay.specs.Folds.{IndFound, SegFound, OnlyNames, ind_with, seg_with, ind_fold, seg_fold, seg_fold_with, made_ind, made_seg, named_ind, with_state}
-use Rattle.mc_replay.specs.Good.{AreGood}
+use Rattle.mc_replay.specs.Folds.{IndFound, SegFound, OnlyNames, ind_with, seg_with, ind_fold, seg_fold, made_ind, made_seg, named_ind, with_state}
 use Rattle.mc_replay.specs.Joined.{seen, seen_half}
-use Rattle.mc_replay.specs.Named.{IsGood, TellsFrom, nodes_of_both, with_named}
+use Rattle.mc_replay.specs.Named.{TellsFrom, nodes_of_both}
 
 -- ---- options
 
@@ -149,62 +147,37 @@ module _ (w : Basis) (j : Joining) (side : Side) (p : Pair) (cover : Covers) whe
       → o ≡ edges_of (cover (w.know s) defs (plain at) es) → option_map made o ≡ option_map made (edges_of here)
   found_by made o s defs at es state same node free is = ap (option_map made) (is ∙ ap edges_of (same_cover s defs at es state same node free))
 
--- ---- the sides of a join
+-- ---- a join in which nodes of a side were named
 
--- a state of a side in which nodes were named
-module _ (old : Kept) (s : State) (good : AreGood old) (is_good : IsGood s) where
-  pub only_left : s.graph ≡ old.left.state.graph → ((w : Basis) → TellsFrom w old.left.state → TellsFrom w s)
-      → OnlyNames Left old (record old { left = record old.left { state = s } })
-  only_left graph tells =
-      record {
-        good = record { left = is_good; right = good.right };
-        rest = ap (λ (z : Graph). with_left (others z.edges old.left.used.items)) graph;
-        graph = graph;
-        tells = tells;
-      }
+module _ (side : Side) (s : State) (j : Joining) where
+  -- the other side is the same
+  pub other_half : half (with_state side s j) (across side) ≡ half j (across side)
+  other_half = at side
     where
-      with_left : Edges → Joining
-      with_left es = record (seen old) { left = record { state = s; unused = es } }
+      at : (x : Side) → half (with_state x s j) (across x) ≡ half j (across x)
+      at Left = refl
+      at Right = refl
 
-  pub only_right : s.graph ≡ old.right.state.graph → ((w : Basis) → TellsFrom w old.right.state → TellsFrom w s)
-      → OnlyNames Right old (record old { right = record old.right { state = s } })
-  only_right graph tells =
-      record {
-        good = record { left = good.left; right = is_good };
-        rest = ap (λ (z : Graph). with_right (others z.edges old.right.used.items)) graph;
-        graph = graph;
-        tells = tells;
-      }
+  -- and so is what parts make of it, since they have states of their own
+  pub joined_anew : (l r : Part) → joined (with_state side s j) l r ≡ joined j l r
+  joined_anew l r = at side
     where
-      with_right : Edges → Joining
-      with_right es = record (seen old) { right = record { state = s; unused = es } }
+      at : (x : Side) → joined (with_state x s j) l r ≡ joined j l r
+      at Left = refl
+      at Right = refl
 
--- of one state of a side after another the last one stays
-last_state : (side : Side) (s u : State) (j : Joining) → with_state side u (with_state side s j) ≡ with_state side u j
-last_state Left s u j = refl
-last_state Right s u j = refl
+  pub joined_from_anew : (first : Side) (mine theirs : Part) → joined_from (with_state side s j) first mine theirs ≡ joined_from j first mine theirs
+  joined_from_anew Left mine theirs = joined_anew mine theirs
+  joined_from_anew Right mine theirs = joined_anew theirs mine
 
-pub only_both : (side : Side) (old mid new : Kept) → OnlyNames side old mid → OnlyNames side mid new → OnlyNames side old new
-only_both side old mid new first last =
-    record {
-      good = last.good;
-      rest =
-          last.rest
-          ∙ (ap (with_state side (half (seen new) side).state) first.rest
-          ∙ last_state side (half (seen mid) side).state (half (seen new) side).state (seen old));
-      graph = last.graph ∙ first.graph;
-      tells = λ w t. last.tells w (first.tells w t);
-    }
+module _ (side : Side) (old new : Kept) (o : OnlyNames side old new) where
+  pub other_stays : half (seen new) (across side) ≡ half (seen old) (across side)
+  other_stays = ap (λ (j : Joining). half j (across side)) o.rest ∙ other_half side (half (seen new) side).state (seen old)
 
--- ---- nodes that were named
-
-module _ (w : Basis) (j : Joining) (side : Side) (p : Pair) (pred : PredId) where
-  pub ind_made : (f : IndFound) (s : State) (at : NodeId) (nodes args : List NodeId) → at ≡ of_side side p → args ≡ nodes
-      → Some (with_named s nodes) ≡ nodes_of_args w pred (half j side).state f.args
-      → Some (record { state = s; edge = Ind at pred args; used = f.used }) ≡ made_ind w j side p pred f
-  ind_made f s at nodes args node same is =
-      ap₂ (λ (a : NodeId) (ns : List NodeId). Some (record { state = s; edge = Ind a pred ns; used = f.used })) node same
-      ∙ ap (option_map (named_ind side p pred f.used)) is
-
-  pub ind_not_made : (f : IndFound) → None ≡ nodes_of_args w pred (half j side).state f.args → None ≡ made_ind w j side p pred f
-  ind_not_made f is = ap (option_map (named_ind side p pred f.used)) is
+  -- what is entailed is told in both states, if it was
+  pub tells_both : (w : Basis) → TellsFrom w old.left.state → TellsFrom w old.right.state → TellsFrom w new.left.state × TellsFrom w new.right.state
+  tells_both w l r = at side o
+    where
+      at : (x : Side) → OnlyNames x old new → TellsFrom w new.left.state × TellsFrom w new.right.state
+      at Left n = (n.tells w l, tells_same w new.right.state old.right.state (ap (λ (j : Joining). j.right.state) n.rest) r)
+      at Right n = (tells_same w new.left.state old.left.state (ap (λ (j : Joining). j.left.state) n.rest) l, n.tells w r)

@@ -4,6 +4,7 @@ use Rattle.std.specs.Prelude.{◌&&◌, ◌||◌, not, is_some, is_none, flat_ma
 use Rattle.std.specs.List.{list_any, list_all, range_with_len}
 use Rattle.std.proofs.lemmas.List.Folds.{list_any-append}
 use Rattle.mc_base.specs.declared.ids.PredId.{PredId}
+use Rattle.mc_flow.specs.declared.defs.rules.Def.{Def}
 use Rattle.mc_state.specs.declared.line.Side.{Side}
 use Rattle.mc_state.specs.declared.line.Side.TheVariants.{Left, Right}
 use Rattle.mc_joins.specs.Joinings.{Joining, Pair}
@@ -92,13 +93,15 @@ module _ (test : Ending → Bool) (j : Joining) where
   pub any_ending : (w : Basis) → list_any test (endings w j) ≡ list_any (λ pred. list_any test (endings_of j pred)) (predicates w)
   any_ending w = any_flat test (endings_of j) (predicates w)
 
-pub any_pred : (w : Basis) (test : PredId → Bool) → list_any test (predicates w) ≡ list_any (λ i. test (pred_of i)) (range_with_len 0 (length w.defs))
-any_pred w test = any_map test pred_of (range_with_len 0 (length w.defs))
+pub any_pred : (w : Basis) (defs : List Def) → w.defs ≡ defs → (test : PredId → Bool)
+    → list_any test (predicates w) ≡ list_any (λ i. test (pred_of i)) (range_with_len 0 (length defs))
+any_pred w defs same test =
+    any_map test pred_of (range_with_len 0 (length w.defs)) ∙ ap (λ (ds : List Def). list_any (λ i. test (pred_of i)) (range_with_len 0 (length ds))) same
+
+pub not_twice : (b : Bool) → b ≡ not (not b)
+not_twice true = refl
+not_twice false = refl
 
 pub any_seg : (step : SegStep) (w : Basis) (j : Joining) (p : Pair) → list_any (has_seg step w j p) (endings w j) ≡ not (no_seg step w j p)
 any_seg Six w j p = not_twice (list_any (has_seg Six w j p) (endings w j)) ∙ ap not (sym (all_none (by_j6 w j p) (endings w j)))
 any_seg Seven w j p = not_twice (list_any (has_seg Seven w j p) (endings w j)) ∙ ap not (sym (all_none (by_j7 w j p) (endings w j)))
-
-not_twice : (b : Bool) → b ≡ not (not b)
-not_twice true = refl
-not_twice false = refl

@@ -3,7 +3,7 @@ use Rattle.std.specs.Prelude.{◌≡◌, List, Option, Some, None, map, option_m
 use Rattle.mc_base.specs.declared.ids.EdgeId.{EdgeId}
 use Rattle.mc_base.specs.declared.ids.NodeId.{NodeId}
 use Rattle.mc_base.specs.declared.ids.PredId.{PredId}
-use Rattle.mc_state.specs.declared.graph.edge.Edge.TheVariants.{Ind, Seg}
+use Rattle.mc_state.specs.declared.graph.edge.Edge.TheVariants.{Ind}
 use Rattle.mc_state.specs.declared.line.Side.{Side}
 use Rattle.mc_state.specs.declared.line.Side.TheVariants.{Left, Right}
 use Rattle.mc_state.specs.declared.terms.Term.{Term}
@@ -11,7 +11,7 @@ use Rattle.mc_state.specs.Named.{IndParts}
 use Rattle.mc_state.specs.State.{State}
 use Rattle.mc_state.specs.Terms.{plain}
 use Rattle.mc_cover.specs.First.{first_cover, first_seg_cover}
-use Rattle.mc_joins.specs.Joinings.{Half, Joining, Pair, across, half, of_side, free_edges}
+use Rattle.mc_joins.specs.Joinings.{Joining, Pair, across, half, of_side, free_edges}
 use Rattle.mc_joins.specs.Parts.{Basis, Part, Named, nodes_of_args, standing_args, guessed, with_partners, ended_part}
 use Rattle.mc_joins.specs.Steps.{four_args}
 use Rattle.mc_replay.specs.declared.folds.Part.{Part as KeptPart}

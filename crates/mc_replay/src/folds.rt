@@ -1,6 +1,5 @@
 // What a side gives to a step: an edge as it is, edges that are folded, or an empty segment.
-ghost use Rattle.std.specs.Prelude.{◌≡◌, ◌∷◌, [], Some, None, IfOk, OnOk, is_some, map, option_map, List};
-ghost use Rattle.mc_base.specs.declared.ids.NodeId.{NodeId as Node};
+ghost use Rattle.std.specs.Prelude.{◌≡◌, Some, None, IfOk, OnOk, is_some, option_map};
 ghost use Rattle.mc_state.specs.declared.graph.edge.Edge.TheVariants.{Seg};
 ghost use Rattle.mc_state.specs.Named.{IndParts};
 ghost use Rattle.mc_state.specs.Terms.{plain};
@@ -73,21 +72,6 @@ fn standing(
         → nodes.items ≡ standing_args w (seen_half half.now) pred at) }
 {
     standing_args(alloc, &half.state, defs, half.used.as_slice(), pred, at)
-}
-
-/// The same as terms.
-fn standing_terms(
-    alloc: Global,
-    half: &Half,
-    defs: &Defs,
-    pred: PredId,
-    at: NodeId,
-) -> Result<Vec<Term>, NoMemory>
-    ensures { IfOk result (λ terms. (w : Basis) → w.defs ≡ defs.now → TellsFrom w half.now.state
-        → terms.items ≡ map plain (standing_args w (seen_half half.now) pred at)) }
-{
-    let nodes = standing(alloc, half, defs, pred, at)?;
-    plain_all(alloc, nodes.as_slice())
 }
 
 /// An empty segment at a side's node, with the same arguments at both ends.
@@ -286,6 +270,22 @@ fn seg_fold(
     Ok(seg_with(args, end, ends, used))
 }
 
+/// The arguments of a side's edge where a segment of a predicate is to end.
+fn standing_ends(
+    alloc: Global,
+    join: &Joining,
+    defs: &Defs,
+    side: Side,
+    pred: PredId,
+    end: NodeId,
+) -> Result<Vec<Term>, NoMemory>
+    ensures { IfOk result (λ terms. (w : Basis) → w.defs ≡ defs.now → TellsFrom w (half (seen join.now) side).state
+        → terms.items ≡ standing_ends w (seen join.now) side pred end) }
+{
+    let nodes = standing(alloc, join.half(side), defs, pred, end)?;
+    plain_all(alloc, nodes.as_slice())
+}
+
 /// The fold of a side's free edges into a Seg to another pair's node, where the end arguments are those of an edge there.
 pub fn seg_to(
     alloc: Global,
@@ -301,7 +301,7 @@ pub fn seg_to(
         → option_map seen_seg fold
         ≡ seg_fold w (seen join.now) side pair.now pred end (standing_ends w (seen join.now) side pred end)) }
 {
-    let ends = standing_terms(alloc, join.half(side), defs, pred, end)?;
+    let ends = standing_ends(alloc, join, defs, side, pred, end)?;
     seg_fold(alloc, join, defs, side, pair, pred, end, ends)
 }
 
@@ -321,7 +321,7 @@ pub fn seg_for(
         → option_map seen_seg fold
         ≡ seg_fold w (seen join.now) side pair.now pred end (partner_ends w (seen join.now) side pred end others.now)) }
 {
-    let found = standing_terms(alloc, join.half(side), defs, pred, end)?;
+    let found = standing_ends(alloc, join, defs, side, pred, end)?;
     let ends = partner_or_terms(
         alloc,
         join.pairs.as_slice(),

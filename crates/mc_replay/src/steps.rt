@@ -114,7 +114,7 @@ fn six(
     ensures joins { IfOk result (λ found. ForTests defs.now join.now (λ w.
         by_seg SegStep.Six w (seen join.now) pair.now (seen_ending ending)
         ≡ seg_found SegStep.Six w (seen join.now) (seen_ending ending) pair.now found)) }
-    ensures seg { IfOk result (λ found. GivesSeg found) }
+    ensures seg { IfOk result (λ found. ForTests defs.now join.now (λ w. GivesSeg found)) }
 {
     let Some(end) = pair_at(join, ending.place) else {
         return Ok(None);
@@ -183,7 +183,7 @@ fn seven(
     ensures joins { IfOk result (λ found. ForTests defs.now join.now (λ w.
         by_seg SegStep.Seven w (seen join.now) pair.now (seen_ending ending)
         ≡ seg_found SegStep.Seven w (seen join.now) (seen_ending ending) pair.now found)) }
-    ensures seg { IfOk result (λ found. GivesSeg found) }
+    ensures seg { IfOk result (λ found. ForTests defs.now join.now (λ w. GivesSeg found)) }
 {
     let Some(end) = pair_at(join, ending.place) else {
         return Ok(None);
@@ -238,7 +238,7 @@ fn seg_found(
     ensures joins { IfOk result (λ found. ForTests defs.now join.now (λ w.
         by_seg step w (seen join.now) pair.now (seen_ending ending)
         ≡ seg_found step w (seen join.now) (seen_ending ending) pair.now found)) }
-    ensures seg { IfOk result (λ found. GivesSeg found) }
+    ensures seg { IfOk result (λ found. ForTests defs.now join.now (λ w. GivesSeg found)) }
 {
     match step {
         SegStep::Six => six(alloc, join, defs, pair, ending),

@@ -1,25 +1,59 @@
-use Rattle.std.proofs.Common.{rules, ◌≡◌, ◌&&◌, not, Some, None, IfOk, OnOk, IsSome, is_some, option_and_then, slice_get, if◌then◌else◌, ℕ, ◌+◌, ◌-◌, ◌*◌, ◌<◌, ◌≤◌, length, ◌/◌, ◌%◌, Bool, true, false, nat_eq, nat_lt, List, [], ◌∷◌, ◌++◌, slice_index_or, slice_set, bit_and, bit_or, Fits, w8, w32, w64, Bor, MutBor}
-use Rattle.std.specs.List.{list_any}
+use Rattle.std.proofs.Common.{◌≡◌, ◌<◌, ◌≤◌, ◌-◌, ◌+◌, ℕ, Bool, true, false, List, [], ◌∷◌, ◌++◌, Option, Some, None, Bor, map, length, refl, sym, ap, ap₂, subst, ◌∙◌, arith}
+use Rattle.std.specs.Prelude.{◌==◌, ◌&&◌, ◌||◌, not, is_some, option_map, option_and_then, slice_get, if◌then◌else◌}
+use Rattle.std.specs.List.{list_any, range_with_len}
 use Rattle.std.specs.Option.{option_copied}
+use Rattle.mc_base.specs.declared.ids.EdgeId.{EdgeId}
+use Rattle.mc_base.specs.declared.ids.NodeId.{NodeId}
+use Rattle.mc_state.specs.declared.graph.edge.Edge.{Edge}
 use Rattle.mc_state.specs.Named.{ind_of}
-use Rattle.mc_joins.specs.Joinings.{across, half}
-use Rattle.mc_joins.specs.Parts.{Basis}
-use Rattle.mc_joins.specs.Steps.{edge_there, are_alike, are_unlike, may_end, joined, joined_from, by_both, by_ind, by_folds, no_j6, no_j7, predicates, step_at, after_step, is_stuck}
-use Rattle.mc_replay.specs.Folds.{seen_part}
+use Rattle.mc_state.specs.declared.line.JoinStep.{JoinStep}
+use Rattle.mc_state.specs.declared.line.Side.{Side}
+use Rattle.mc_state.specs.declared.line.Side.TheVariants.{Left, Right}
+use Rattle.mc_state.specs.State.{State}
+use Rattle.mc_pure_ops.specs.Join.Joint.{Pairs}
+use Rattle.mc_joins.specs.Joinings.{Half, Joining, Pair, across, half, of_side, edge_at}
+use Rattle.mc_joins.specs.Parts.{Basis, Part, nodes_of_args, as_it_is}
+use Rattle.mc_joins.specs.Steps.{edge_for, joined, edge_there, is_ind, step_at}
+use Rattle.mc_replay.specs.declared.joining.Half.{Half as KeptHalf}
+use Rattle.mc_replay.specs.declared.joining.Joining.{Joining as Kept}
+use Rattle.mc_replay.specs.declared.folds.IndFold.{IndFold as KeptInd}
+use Rattle.mc_replay.specs.declared.folds.SegFold.{SegFold as KeptSeg}
+use Rattle.mc_replay.specs.declared.folds.Part.{Part as KeptPart}
+use Rattle.mc_replay.specs.declared.steps.OtherFold.{OtherFold}
+use Rattle.mc_replay.specs.declared.steps.SegStep.TheVariants.{Six, Seven}
+use Rattle.mc_replay.specs.Folds.{IndFound, SegFound, seen_part, seen_ind, seen_seg, seg_fold, standing_ends, partner_ends}
 use Rattle.mc_replay.specs.Forms.{is_form}
-use Rattle.mc_replay.specs.Good.{AreGood}
 use Rattle.mc_replay.specs.Joined.{seen}
-use Rattle.mc_replay.specs.Steps.{TellsBoth, ForTests, ComesTo, seen_ending, by_seg, no_seg, has_seg, endings_on, endings_of, closed_by, seg_found, GivesSeg, ends_to, are_pointers, both_joined, four_joined, by_either, GivesInd, five_joined, gives_way, by_step, has_both, has_fold, has_step}
+use Rattle.mc_replay.specs.Named.{TellsFrom, nodes_of_both}
+use Rattle.mc_replay.specs.Steps.{ComesTo, TellsBoth, are_pointers, seen_ending, seg_found, closed_by, ends_to, four_joined, is_seg, by_step, has_seg, endings_on, endings_of, has_fold}
+use Rattle.mc_replay.proofs.FoldLemmas.{if_ok}
+use Rattle.mc_replay.proofs.StepLists.{any_next, any_here, any_end, any_on, any_ending, any_pred, any_seg, ending_on, pred_of}
 use Rattle.mc_replay.proofs.steps.has_any_place.Goals as goal
 
--- src/steps.rt:331:13
 pub returns-then-branch : goal.returns-then-branch
-returns-then-branch c = ?
+returns-then-branch c = λ w same t.
+    let j = seen c.args.join.now in
+    let test : ℕ → Bool = λ place. has_seg c.args.step w j c.args.pair.now (ending_on c.args.pred c.args.side place) in
+    let n = length c.args.join.now.pairs.items in
+    let i = c.loop-place.place in
+    let l : i < n = omega (arith, c.args.join.now.pairs.ok.0) in
+    sym (any_on (has_seg c.args.step w j c.args.pair.now) j c.args.pred c.args.side
+    ∙ (c.loop-place.invariant w same t ∙ any_here test n i l (sym (c.in_ok-has_seg.ensures w same t) ∙ c.if-branch.true)))
 
--- src/steps.rt:324:5
 pub loop-place-preserved : goal.loop-place-preserved
-loop-place-preserved c = ?
+loop-place-preserved c = λ w same t.
+    let j = seen c.args.join.now in
+    let test : ℕ → Bool = λ place. has_seg c.args.step w j c.args.pair.now (ending_on c.args.pred c.args.side place) in
+    let n = length c.args.join.now.pairs.items in
+    let i = c.loop-place.place in
+    let l : i < n = omega (arith, c.args.join.now.pairs.ok.0) in
+    c.loop-place.invariant w same t ∙ any_next test n i l (sym (c.in_ok-has_seg.ensures w same t) ∙ c.if-branch.false)
 
--- src/steps.rt:311:1
 pub returns : goal.returns
-returns c = ?
+returns c = λ w same t.
+    let j = seen c.args.join.now in
+    let test : ℕ → Bool = λ place. has_seg c.args.step w j c.args.pair.now (ending_on c.args.pred c.args.side place) in
+    let n = length c.args.join.now.pairs.items in
+    let i = c.loop-place.place in
+    let l : n ≤ i = omega (arith, c.args.join.now.pairs.ok.0) in
+    sym (any_on (has_seg c.args.step w j c.args.pair.now) j c.args.pred c.args.side ∙ (c.loop-place.invariant w same t ∙ any_end test n i l))

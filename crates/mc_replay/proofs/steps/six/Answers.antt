@@ -1,29 +1,73 @@
-use Rattle.std.proofs.Common.{rules, ◌≡◌, ◌&&◌, not, Some, None, IfOk, OnOk, IsSome, is_some, option_and_then, slice_get, if◌then◌else◌, ℕ, ◌+◌, ◌-◌, ◌*◌, ◌<◌, ◌≤◌, length, ◌/◌, ◌%◌, Bool, true, false, nat_eq, nat_lt, List, [], ◌∷◌, ◌++◌, slice_index_or, slice_set, bit_and, bit_or, Fits, w8, w32, w64, Bor, MutBor}
-use Rattle.std.specs.List.{list_any}
+use Rattle.std.proofs.Common.{◌≡◌, ◌<◌, ◌≤◌, ◌-◌, ◌+◌, ℕ, Bool, true, false, List, [], ◌∷◌, ◌++◌, Option, Some, None, Bor, map, length, refl, sym, ap, ap₂, subst, ◌∙◌, arith}
+use Rattle.std.specs.Prelude.{◌==◌, ◌&&◌, ◌||◌, not, is_some, option_map, option_and_then, slice_get, if◌then◌else◌}
+use Rattle.std.specs.List.{list_any, range_with_len}
 use Rattle.std.specs.Option.{option_copied}
+use Rattle.mc_base.specs.declared.ids.EdgeId.{EdgeId}
+use Rattle.mc_base.specs.declared.ids.NodeId.{NodeId}
+use Rattle.mc_state.specs.declared.graph.edge.Edge.{Edge}
 use Rattle.mc_state.specs.Named.{ind_of}
-use Rattle.mc_joins.specs.Joinings.{across, half}
-use Rattle.mc_joins.specs.Parts.{Basis}
-use Rattle.mc_joins.specs.Steps.{edge_there, are_alike, are_unlike, may_end, joined, joined_from, by_both, by_ind, by_folds, no_j6, no_j7, predicates, step_at, after_step, is_stuck}
-use Rattle.mc_replay.specs.Folds.{seen_part}
+use Rattle.mc_state.specs.declared.line.JoinStep.{JoinStep}
+use Rattle.mc_state.specs.declared.line.Side.{Side}
+use Rattle.mc_state.specs.declared.line.Side.TheVariants.{Left, Right}
+use Rattle.mc_state.specs.State.{State}
+use Rattle.mc_pure_ops.specs.Join.Joint.{Pairs}
+use Rattle.mc_joins.specs.Joinings.{Half, Joining, Pair, across, half, of_side, edge_at}
+use Rattle.mc_joins.specs.Parts.{Basis, Part, nodes_of_args, as_it_is}
+use Rattle.mc_joins.specs.Steps.{edge_for, joined, edge_there, is_ind, step_at}
+use Rattle.mc_replay.specs.declared.joining.Half.{Half as KeptHalf}
+use Rattle.mc_replay.specs.declared.joining.Joining.{Joining as Kept}
+use Rattle.mc_replay.specs.declared.folds.IndFold.{IndFold as KeptInd}
+use Rattle.mc_replay.specs.declared.folds.SegFold.{SegFold as KeptSeg}
+use Rattle.mc_replay.specs.declared.folds.Part.{Part as KeptPart}
+use Rattle.mc_replay.specs.declared.steps.OtherFold.{OtherFold}
+use Rattle.mc_replay.specs.declared.steps.SegStep.TheVariants.{Six, Seven}
+use Rattle.mc_replay.specs.Folds.{IndFound, SegFound, seen_part, seen_ind, seen_seg, seg_fold, standing_ends, partner_ends}
 use Rattle.mc_replay.specs.Forms.{is_form}
-use Rattle.mc_replay.specs.Good.{AreGood}
 use Rattle.mc_replay.specs.Joined.{seen}
-use Rattle.mc_replay.specs.Steps.{TellsBoth, ForTests, ComesTo, seen_ending, by_seg, no_seg, has_seg, endings_on, endings_of, closed_by, seg_found, GivesSeg, ends_to, are_pointers, both_joined, four_joined, by_either, GivesInd, five_joined, gives_way, by_step, has_both, has_fold, has_step}
+use Rattle.mc_replay.specs.Named.{TellsFrom, nodes_of_both}
+use Rattle.mc_replay.specs.Steps.{ComesTo, TellsBoth, are_pointers, seen_ending, seg_found, closed_by, ends_to, four_joined, is_seg, by_step, has_seg, endings_on, endings_of, has_fold}
+use Rattle.mc_replay.proofs.FoldLemmas.{if_ok}
+use Rattle.mc_replay.proofs.StepLemmas.{six_none, six_empty, six_some, seg_with, empty_made, tells_side, same_some}
 use Rattle.mc_replay.proofs.steps.six.Goals as goal
 
--- src/steps.rt:127:9
 pub returns-in_default-2-clause-joins : goal.returns-in_default-2-clause-joins
-returns-in_default-2-clause-joins c = ?
+returns-in_default-2-clause-joins c = λ w same t.
+    let j = seen c.args.join.now in
+    let e = seen_ending c.args.ending in
+    let there : slice_get j.pairs e.place ≡ Some c.in-Some.end = sym c.pair_at.ensures ∙ c.in-Some.is in
+    let found : option_map seen_seg c.in_ok-fold.field-0 ≡ seg_fold w j e.side c.args.pair.now e.pred (of_side e.side c.in-Some.end) (standing_ends w j e.side e.pred (of_side e.side c.in-Some.end)) =
+    c.in_ok-fold.ensures w same (tells_side w c.args.join.now c.args.ending.side t)
+    ∙ ap (λ (n : NodeId). seg_fold w j e.side c.args.pair.now e.pred n (standing_ends w j e.side e.pred n)) c.of_side-stop.ensures in
+    six_none w j e c.args.pair.now c.in-Some.end there (sym c.may_end.ensures ∙ c.if-not-may_end.false)
+    (sym found ∙ ap (option_map seen_seg) c.in_default-2.is)
 
--- src/steps.rt:130:9
 pub returns-then-is_empty-clause-joins : goal.returns-then-is_empty-clause-joins
-returns-then-is_empty-clause-joins c = ?
+returns-then-is_empty-clause-joins c = λ w same t.
+    let j = seen c.args.join.now in
+    let e = seen_ending c.args.ending in
+    let there : slice_get j.pairs e.place ≡ Some c.in-Some.end = sym c.pair_at.ensures ∙ c.in-Some.is in
+    let found : option_map seen_seg c.in_ok-fold.field-0 ≡ seg_fold w j e.side c.args.pair.now e.pred (of_side e.side c.in-Some.end) (standing_ends w j e.side e.pred (of_side e.side c.in-Some.end)) =
+    c.in_ok-fold.ensures w same (tells_side w c.args.join.now c.args.ending.side t)
+    ∙ ap (λ (n : NodeId). seg_fold w j e.side c.args.pair.now e.pred n (standing_ends w j e.side e.pred n)) c.of_side-stop.ensures in
+    six_empty w j e c.args.pair.now c.in-Some.end there (sym c.may_end.ensures ∙ c.if-not-may_end.false) (seen_seg c.in-Some-2.fold)
+    (sym found ∙ ap (option_map seen_seg) c.in-Some-2.is) (ap (λ (n : ℕ). n == 0) (sym c.in-Some-2.fold.used.ok.0) ∙ (sym c.is_empty.ensures ∙ c.if-is_empty.true))
 
--- src/steps.rt:106:1
 pub returns-clause-joins : goal.returns-clause-joins
-returns-clause-joins c = ?
+returns-clause-joins c = λ w same t.
+    let j = seen c.args.join.now in
+    let e = seen_ending c.args.ending in
+    let there : slice_get j.pairs e.place ≡ Some c.in-Some.end = sym c.pair_at.ensures ∙ c.in-Some.is in
+    let found : option_map seen_seg c.in_ok-fold.field-0 ≡ seg_fold w j e.side c.args.pair.now e.pred (of_side e.side c.in-Some.end) (standing_ends w j e.side e.pred (of_side e.side c.in-Some.end)) =
+    c.in_ok-fold.ensures w same (tells_side w c.args.join.now c.args.ending.side t)
+    ∙ ap (λ (n : NodeId). seg_fold w j e.side c.args.pair.now e.pred n (standing_ends w j e.side e.pred n)) c.of_side-stop.ensures in
+    let other_tells = subst (λ (s : State). TellsFrom w s) (ap (λ (h : Half). h.state) (sym c.half.ensures.is)) (tells_side w c.args.join.now c.across-other.result t) in
+    six_some w j e c.args.pair.now c.in-Some.end there (sym c.may_end.ensures ∙ c.if-not-may_end.false) (seen_seg c.in-Some-2.fold)
+    (sym found ∙ ap (option_map seen_seg) c.in-Some-2.is) (ap (λ (n : ℕ). n == 0) (sym c.in-Some-2.fold.used.ok.0) ∙ (sym c.is_empty.ensures ∙ c.if-is_empty.false))
+    ∙ ap (λ (m : Part). option_map (closed_by Six e.side c.args.pair.now) (seg_with w j e c.args.pair.now m (seen_seg c.in-Some-2.fold)))
+    (sym (empty_made w j e c.args.pair.now c.half.result.now c.across-other.result c.of_side.result c.in_ok-theirs.theirs c.across-other.ensures c.half.ensures.is c.of_side.ensures
+    (c.in_ok-theirs.ensures w same other_tells)))
 
--- src/steps.rt:106:1
 pub returns-clause-seg : goal.returns-clause-seg
-returns-clause-seg c = ?
+returns-clause-seg c = λ w same t f is.
+    let other_tells = subst (λ (s : State). TellsFrom w s) (ap (λ (h : Half). h.state) (sym c.half.ensures.is)) (tells_side w c.args.join.now c.across-other.result t) in
+    subst (λ (z : KeptSeg × KeptPart). is_seg z.1.edge ≡ true) (same_some is) (ap (λ (x : Part). is_seg x.edge) (c.in_ok-theirs.ensures w same other_tells))
