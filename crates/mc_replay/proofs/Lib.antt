@@ -4,3 +4,5 @@ pub mod Pairing
 pub mod StepLists
 pub mod FoldLemmas
 pub mod StepLemmas
+pub mod WholeLemmas
+pub mod ReplayLemmas

@@ -6,3 +6,5 @@ pub mod Forms
 pub mod Good
 pub mod Folds
 pub mod Steps
+pub mod Whole
+pub mod Replayed
