@@ -1,6 +1,7 @@
 mod Members
 mod Stuck
 mod Once
+mod Agree
 mod Counter
 mod Keeping
 mod Steady
