@@ -8,14 +8,14 @@ ghost use Rattle.mc_state.specs.Facts.{IsTidy};
 ghost use Rattle.mc_state.specs.Lists.{all_both};
 ghost use Rattle.mc_joins.specs.Chains.Judges.{gets_stuck};
 ghost use Rattle.mc_replay.specs.Named.{IsGood};
-ghost use Rattle.mc_replay.specs.Changes.{states_held, AreTold, ForTests, IsJoined, IsOpened, IsRejoined, OpeningIsParted, JoiningIsParted};
+ghost use Rattle.mc_replay.specs.Changes.{states_held, AreMadeFor, ForTests, IsJoined, IsOpened, IsRejoined, OpeningIsParted, JoiningIsParted};
 
 use crate::answers::{Replayed, replay};
 use mc_base::{Items, NoMemory};
 use mc_flow::defs::Defs;
 use mc_joins::alike::{are_same, is_tidy};
 use mc_joins::anew::{Renewed, anew};
-use mc_joins::{joins_are_determined, joins_make_well, joins_name_all};
+use mc_joins::{joins_are_determined, joins_make_well, joins_name_all, made_are_told};
 use mc_state::{JoinStep, tests_tell};
 use mc_symbolic::State;
 use std::alloc::Global;
@@ -89,7 +89,7 @@ pub fn opened(
     own: &State,
     tries: &[Items<JoinStep>],
 ) -> Result<Result<State, u8>, NoMemory>
-    requires { AreTold defs.now (own.now ∷ states_held lefts.now) }
+    requires { AreMadeFor defs.now (own.now ∷ states_held lefts.now) }
     ensures { IfOk result (IsOpened defs.now (states_held lefts.now) tries.now own.now) }
 {
     // for the proof alone
@@ -156,11 +156,12 @@ pub fn rejoined(
     round: u64,
     thresholds: &[i64],
 ) -> Result<Result<State, u8>, NoMemory>
-    requires told { AreTold defs.now (own.now ∷ states_held lefts.now) }
+    requires made { AreMadeFor defs.now (own.now ∷ states_held lefts.now) }
     requires ints { All IsInt thresholds.now }
     ensures { IfOk result (IsRejoined defs.now round thresholds.now (states_held lefts.now) j steps.now own.now) }
 {
     // for the proof alone
+    made_are_told();
     joins_name_all();
     joins_make_well();
     joins_are_determined();

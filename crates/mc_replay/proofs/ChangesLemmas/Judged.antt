@@ -16,14 +16,14 @@ use Rattle.mc_state.specs.Told.{FalseIsTold}
 use Rattle.mc_state.proofs.Lists.{all_both as both_hold, all_at, all_map}
 use Rattle.mc_joins.specs.Alike.Named.{AllNamed, AreSameBySome}
 use Rattle.mc_joins.specs.Joinings.{Joining}
-use Rattle.mc_joins.specs.Laws.{JoinsAreDetermined, JoinsMakeWell, JoinsNameAll}
+use Rattle.mc_joins.specs.Laws.{JoinsAreDetermined, JoinsMakeWell, JoinsNameAll, MadeAreTold}
 use Rattle.mc_joins.specs.Parts.{Basis}
 use Rattle.mc_joins.specs.Same.Same.{anew}
 use Rattle.mc_joins.specs.Whole.{Joins}
 use Rattle.mc_joins.specs.Chains.Judges.{Lore, basis, whole_join, gets_stuck, given_by}
 use Rattle.mc_joins.specs.Chains.Laws.{Made, IsRight}
 use Rattle.mc_joins.proofs.ChainsLemmas.Judging.{all_from, all_to}
-use Rattle.mc_replay.specs.Changes.{AreTold, ForTests, IsJoined, opened_state, rejoined_state}
+use Rattle.mc_replay.specs.Changes.{AreMadeFor, ForTests, IsJoined, opened_state, rejoined_state}
 use Rattle.mc_replay.specs.Named.{IsGood, TellsFrom}
 use Rattle.mc_replay.proofs.ChangesLemmas.Replays.{whole_done}
 
@@ -36,28 +36,29 @@ same_test false false h g = refl
 
 -- ---- what is known of the states
 
-module _ (defs : List Def) (own : State) (lefts : List State) (told : AreTold defs (own ∷ lefts)) where
-  good : (s : State) → IsWellMade defs told.vars told.structs s → IsTidy s → IsGood s
-  good s made tidy = record { made = (defs, told.vars, told.structs, made); consistent = tidy.consistent }
+module _ (defs : List Def) (own : State) (lefts : List State) (all : AreMadeFor defs (own ∷ lefts)) where
+  good : (s : State) → IsWellMade defs all.vars all.structs s → IsTidy s → IsGood s
+  good s made tidy = record { made = (defs, all.vars, all.structs, made); consistent = tidy.consistent }
 
   pub own_good : IsTidy own → IsGood own
-  own_good tidy = good own told.made.0 tidy
+  own_good tidy = good own all.made.0 tidy
 
   pub lefts_good : AllByRecursion IsTidy lefts → AllByRecursion IsGood lefts
-  lefts_good tidy = both_hold (IsWellMade defs told.vars told.structs) IsTidy IsGood good lefts told.made.1 tidy
+  lefts_good tidy = both_hold (IsWellMade defs all.vars all.structs) IsTidy IsGood good lefts all.made.1 tidy
 
   pub left_good : (j : ℕ) (left : State) → slice_get lefts j ≡ Some left → IsTidy left → IsGood left
-  left_good j left there tidy = good left (all_at (IsWellMade defs told.vars told.structs) lefts j left there told.made.1) tidy
+  left_good j left there tidy = good left (all_at (IsWellMade defs all.vars all.structs) lefts j left there all.made.1) tidy
 
   -- what a whole join gives has no node that is not named
-  pub join_named : JoinsNameAll → (round : ℕ) (thresholds : List ℤ) (j : ℕ) (left : State) (steps : List JoinStep) (t : State) → slice_get lefts j ≡ Some left
+  pub join_named : MadeAreTold → JoinsNameAll → (round : ℕ) (thresholds : List ℤ) (j : ℕ) (left : State) (steps : List JoinStep) (t : State) → slice_get lefts j ≡ Some left
       → ForTests defs (left ∷ own ∷ []) (IsJoined round thresholds left own steps (Some t)) → AllNamed t
-  join_named names round thresholds j left steps t there joins =
-      let left_made = all_at (IsWellMade defs told.vars told.structs) lefts j left there told.made.1 in
-      names defs told.vars told.structs told.know round thresholds left own steps t told.knows left_made told.made.0
-      (joins (record { know = told.know; defs = defs }) refl (
-        record { vars = told.vars; structs = told.structs; knows = told.knows; made = left_made },
-        (record { vars = told.vars; structs = told.structs; knows = told.knows; made = told.made.0 }, tt),
+  join_named told names round thresholds j left steps t there joins =
+      let left_made = all_at (IsWellMade defs all.vars all.structs) lefts j left there all.made.1 in
+      let know = told defs all.vars all.structs in
+      names defs all.vars all.structs know.0 round thresholds left own steps t know.1 left_made all.made.0
+      (joins (record { know = know.0; defs = defs }) refl (
+        record { vars = all.vars; structs = all.structs; knows = know.1; made = left_made },
+        (record { vars = all.vars; structs = all.structs; knows = know.1; made = all.made.0 }, tt),
       ))
 
 -- ---- premises

@@ -13,10 +13,10 @@ returns-then-not-branch-2 c k flow right as_flow made =
 
 pub joined-requires-clause-left : goal.joined-requires-clause-left
 joined-requires-clause-left c =
-    left_good c.args.defs.now c.args.own.now (states_held c.args.lefts.now) c.requires.told c.args.j c.in-Some.left.now (sym c.in-Some.ensures) (c.in_ok-is_tidy-2.ensures.0 c.if-not-branch-2.false)
+    left_good c.args.defs.now c.args.own.now (states_held c.args.lefts.now) c.requires.made c.args.j c.in-Some.left.now (sym c.in-Some.ensures) (c.in_ok-is_tidy-2.ensures.0 c.if-not-branch-2.false)
 
 pub joined-requires-clause-own : goal.joined-requires-clause-own
-joined-requires-clause-own c = own_good c.args.defs.now c.args.own.now (states_held c.args.lefts.now) c.requires.told (c.in_ok-is_tidy.ensures.0 c.if-not-branch.false)
+joined-requires-clause-own c = own_good c.args.defs.now c.args.own.now (states_held c.args.lefts.now) c.requires.made (c.in_ok-is_tidy.ensures.0 c.if-not-branch.false)
 
 pub returns-in_default-2 : goal.returns-in_default-2
 returns-in_default-2 c k flow right as_flow made =
@@ -28,7 +28,7 @@ returns-in_default-2 c k flow right as_flow made =
 
 pub are_same-requires : goal.are_same-requires
 are_same-requires c =
-    join_named c.args.defs.now c.args.own.now (states_held c.args.lefts.now) c.requires.told c.joins_name_all.ensures c.args.round c.args.thresholds.now c.args.j c.in-Some.left.now
+    join_named c.args.defs.now c.args.own.now (states_held c.args.lefts.now) c.requires.made c.made_are_told.ensures c.joins_name_all.ensures c.args.round c.args.thresholds.now c.args.j c.in-Some.left.now
     c.args.steps.now c.in-Some-2.state (sym c.in-Some.ensures)
     (λ w e tells. subst (λ (o : Option State). IsJoined c.args.round c.args.thresholds.now c.in-Some.left.now c.args.own.now c.args.steps.now o w) c.in-Some-2.is (c.in_ok-state.ensures w e tells))
 
