@@ -2,7 +2,7 @@ use Rattle.std.proofs.Common.{Option, sym, refl, subst}
 use Rattle.mc_state.specs.State.{State}
 use Rattle.mc_joins.specs.Chains.Judges.{basis}
 use Rattle.mc_replay.specs.Changes.{states_held, IsJoined}
-use Rattle.mc_replay.proofs.ChangesLemmas.Judged.{own_good, left_good, join_named, two_tell, rejoined_untidy, rejoined_none, rejoined_same, rejoined_all}
+use Rattle.mc_replay.proofs.ChangesLemmas.Judged.{may_one, join_named, two_tell, rejoined_untidy, rejoined_none, rejoined_same, rejoined_all}
 use Rattle.mc_replay.proofs.changes.rejoined.Goals as goal
 
 pub returns-then-not-branch-2 : goal.returns-then-not-branch-2
@@ -11,12 +11,10 @@ returns-then-not-branch-2 c k flow right as_flow made =
     rejoined_untidy k flow c.args.defs.now right c.args.own.now lefts made c.args.round c.args.thresholds.now as_flow c.args.j c.in-Some.left.now (sym c.in-Some.ensures) c.args.steps.now
     (c.in_ok-is_tidy.ensures.0 c.if-not-branch.false) c.in_ok-is_tidy-2.field-0 c.in_ok-is_tidy-2.ensures c.if-not-branch-2.true
 
-pub joined-requires-clause-left : goal.joined-requires-clause-left
-joined-requires-clause-left c =
-    left_good c.args.defs.now c.args.own.now (states_held c.args.lefts.now) c.requires.made c.args.j c.in-Some.left.now (sym c.in-Some.ensures) (c.in_ok-is_tidy-2.ensures.0 c.if-not-branch-2.false)
-
-pub joined-requires-clause-own : goal.joined-requires-clause-own
-joined-requires-clause-own c = own_good c.args.defs.now c.args.own.now (states_held c.args.lefts.now) c.requires.made (c.in_ok-is_tidy.ensures.0 c.if-not-branch.false)
+pub joined-requires-clause-states : goal.joined-requires-clause-states
+joined-requires-clause-states c =
+    may_one c.args.defs.now c.args.own.now (states_held c.args.lefts.now) c.requires.made (c.in_ok-is_tidy.ensures.0 c.if-not-branch.false)
+    c.args.j c.in-Some.left.now (sym c.in-Some.ensures) (c.in_ok-is_tidy-2.ensures.0 c.if-not-branch-2.false)
 
 pub returns-in_default-2 : goal.returns-in_default-2
 returns-in_default-2 c k flow right as_flow made =
