@@ -31,7 +31,8 @@ use Rattle.mc_replay.specs.Named.{TellsFrom, nodes_of_both}
 -- ---- options
 
 -- what is made of the edges of a choice
-then_edges : {X Y : Type 0} (f : List EdgeId → X) (g : X → Option Y) (o : Option Choice) → option_and_then g (option_map f (edges_of o)) ≡ option_and_then (λ c. g (f c.used)) o
+then_edges : {X Y : Type 0} (f : List EdgeId → X) (g : X → Option Y) (o : Option Choice)
+    → option_and_then g (option_map f (edges_of o)) ≡ option_and_then (λ c. g (f c.used)) o
 then_edges f g None = refl
 then_edges f g (Some c) = refl
 
@@ -50,7 +51,8 @@ module _ (w : Basis) (j : Joining) (side : Side) (p : Pair) (pred : PredId) wher
       sym (then_edges (ind_with args) (made_ind w j side p pred)
       (first_cover (w.know (half j side).state) w.defs pred (plain (of_side side p)) args (foldable_edges j side p)))
 
-  pub seg_bridge : (stop : NodeId) (ends : List Term) → guessed_seg w j side p pred stop ends ≡ option_and_then (made_seg w j side p pred) (seg_fold w j side p pred stop ends)
+  pub seg_bridge : (stop : NodeId) (ends : List Term)
+      → guessed_seg w j side p pred stop ends ≡ option_and_then (made_seg w j side p pred) (seg_fold w j side p pred stop ends)
   seg_bridge stop ends =
       let args = guessed w (half j side) pred (of_side side p) (Some (plain stop, ends)) in
       sym (then_edges (seg_with args stop ends) (made_seg w j side p pred)
@@ -63,7 +65,9 @@ module _ (w : Basis) (j : Joining) (side : Side) (p : Pair) (pred : PredId) wher
   pub seg_named : (f : SegFound) → is_some (made_seg w j side p pred f) ≡ is_some (nodes_of_both w pred (half j side).state f.args f.ends)
   seg_named f = at (nodes_of_args w pred (half j side).state f.args)
     where
-      at : (o : Option Named) → is_some (option_and_then (ended_part w side p pred f.stop f.ends f.used) o) ≡ is_some (option_and_then (λ first. nodes_of_args w pred first.state f.ends) o)
+      at : (o : Option Named)
+          → is_some (option_and_then (ended_part w side p pred f.stop f.ends f.used) o)
+          ≡ is_some (option_and_then (λ first. nodes_of_args w pred first.state f.ends) o)
       at None = refl
       at (Some first) =
           map_some (λ (last : Named). record { state = last.state; edge = Seg (of_side side p) first.nodes pred f.stop last.nodes; used = f.used })
@@ -81,7 +85,8 @@ module _ (w : Basis) (j : Joining) (side : Side) (p : Pair) (pred : PredId) wher
   seg_uses f part = first_at (nodes_of_args w pred (half j side).state f.args)
     where
       last_at : (first : Named) (o : Option Named)
-          → option_map (λ (last : Named). record { state = last.state; edge = Seg (of_side side p) first.nodes pred f.stop last.nodes; used = f.used }) o ≡ Some part
+          → option_map (λ (last : Named). record { state = last.state; edge = Seg (of_side side p) first.nodes pred f.stop last.nodes; used = f.used }) o
+          ≡ Some part
           → part.used ≡ f.used
       last_at first None is = cc
       last_at first (Some last) is = sym (ap (λ (z : Part). z.used) (same_some is))
@@ -97,16 +102,21 @@ pub if_ok : {X E : Type 0} {P Q : X → Type 0} → (r : Result X E) → ((x : X
 if_ok (Ok x) f p = f x p
 if_ok (Err e) f p = tt
 
--- the edges that are left are given by the list of those that are used
-pub same_standing : (w : Basis) (h : KeptHalf) (pred : PredId) (n : NodeId) (defs : List Def) (used : List EdgeId) → w.defs ≡ defs → used ≡ h.used.items
-    → unwrap_or (option_map (λ (found : EdgeId × List NodeId). found.1) (first_edge (summary_of (w.know h.state) pred (plain n)) (free_edges h.state used))) (zeros_of defs pred)
-    ≡ standing_args w (seen_half h) pred n
-same_standing w h pred n defs used same is =
-    ap₂ (λ (z : List EdgeId) (d : List Def).
-    unwrap_or (option_map (λ (found : EdgeId × List NodeId). found.1) (first_edge (summary_of (w.know h.state) pred (plain n)) (free_edges h.state z))) (zeros_of d pred)) is (sym same)
+-- the arguments of the first of these edges that stands there, else zeros
+abbrev standing_of : Test → List Def → PredId → NodeId → Edges → List NodeId
+standing_of know defs pred n es =
+    unwrap_or (option_map (λ (found : EdgeId × List NodeId). found.1) (first_edge (summary_of know pred (plain n)) es)) (zeros_of defs pred)
 
-pub same_guess : (w : Basis) (h : KeptHalf) (pred : PredId) (n : NodeId) (stop : Option Stop) (defs : List Def) (at : Term) (used : List EdgeId) → w.defs ≡ defs
-    → at ≡ plain n → used ≡ h.used.items → guess (w.know h.state) defs pred at stop (free_edges h.state used) ≡ guessed w (seen_half h) pred n stop
+-- the edges that are left are given by the list of those that are used
+pub same_standing : (w : Basis) (h : KeptHalf) (pred : PredId) (n : NodeId) (defs : List Def) (used : List EdgeId)
+    → w.defs ≡ defs → used ≡ h.used.items
+    → standing_of (w.know h.state) defs pred n (free_edges h.state used) ≡ standing_args w (seen_half h) pred n
+same_standing w h pred n defs used same is =
+    ap₂ (λ (z : List EdgeId) (d : List Def). standing_of (w.know h.state) d pred n (free_edges h.state z)) is (sym same)
+
+pub same_guess : (w : Basis) (h : KeptHalf) (pred : PredId) (n : NodeId) (stop : Option Stop) (defs : List Def) (at : Term) (used : List EdgeId)
+    → w.defs ≡ defs → at ≡ plain n → used ≡ h.used.items
+    → guess (w.know h.state) defs pred at stop (free_edges h.state used) ≡ guessed w (seen_half h) pred n stop
 same_guess w h pred n stop defs at used same node is =
     ap₂ (λ (z : List EdgeId) (d : List Def). guess (w.know h.state) d pred at stop (free_edges h.state z)) is (sym same)
     ∙ ap (λ (a : Term). guess (w.know h.state) w.defs pred a stop (free_edges h.state h.used.items)) node
@@ -115,7 +125,8 @@ same_guess w h pred n stop defs at used same node is =
 pub same_stop : (w : Basis) (pred : PredId) (stop : NodeId) (h g : Half) (n m : NodeId) (ends own : List Term) → h ≡ g → n ≡ m → ends ≡ own
     → guessed w h pred n (Some (plain stop, ends)) ≡ guessed w g pred m (Some (plain stop, own))
 same_stop w pred stop h g n m ends own half node args =
-    ap₂ (λ (z : Half) (x : NodeId). guessed w z pred x (Some (plain stop, ends))) half node ∙ ap (λ (ts : List Term). guessed w g pred m (Some (plain stop, ts))) args
+    ap₂ (λ (z : Half) (x : NodeId). guessed w z pred x (Some (plain stop, ends))) half node
+    ∙ ap (λ (ts : List Term). guessed w g pred m (Some (plain stop, ts))) args
 
 -- ---- what covers take
 
@@ -133,7 +144,8 @@ module _ (w : Basis) (j : Joining) (side : Side) (p : Pair) (cover : Covers) whe
   abbrev here : Option Choice
   here = cover (w.know (half j side).state) w.defs (plain (of_side side p)) (foldable_edges j side p)
 
-  same_cover : (s : State) (defs : List Def) (at : NodeId) (es : Edges) → s ≡ (half j side).state → w.defs ≡ defs → at ≡ of_side side p → es ≡ foldable_edges j side p
+  same_cover : (s : State) (defs : List Def) (at : NodeId) (es : Edges)
+      → s ≡ (half j side).state → w.defs ≡ defs → at ≡ of_side side p → es ≡ foldable_edges j side p
       → cover (w.know s) defs (plain at) es ≡ here
   same_cover s defs at es state same node free =
       ap (λ (z : State). cover (w.know z) defs (plain at) es) state

@@ -15,6 +15,7 @@ returns c =
     if_ok c.guess.result
     (λ terms is w same t.
     is (w.know h.state) (t.knows h.state t.made)
-    ∙ (same_guess w h c.args.pred c.args.at (Some (c.plain.result, c.of.result)) c.args.defs.now c.plain-2.result c.as_slice.result.now same c.plain-2.ensures c.as_slice.ensures.value
+    ∙ (same_guess w h c.args.pred c.args.at (Some (c.plain.result, c.of.result)) c.args.defs.now c.plain-2.result c.as_slice.result.now
+    same c.plain-2.ensures c.as_slice.ensures.value
     ∙ ap (λ (z : Option Stop). guessed w (seen_half h) c.args.pred c.args.at z) stop))
     c.guess.ensures

@@ -26,7 +26,8 @@ returns c = λ w same t.
     let es = free_edges s c.as_slice.result.now in
     let state : s ≡ (half j c.args.side).state = ap (λ (z : Half). z.state) c.half-half.ensures.is in
     c.ind_with.ensures
-    ∙ found_by w j c.args.side c.args.pair.now (λ know ds at es. first_cover know ds c.args.pred at args es) (ind_with args) (option_map (λ ids. ids.items) c.in_ok-used.used) s defs at es
+    ∙ found_by w j c.args.side c.args.pair.now (λ know ds at es. first_cover know ds c.args.pred at args es) (ind_with args)
+    (option_map (λ ids. ids.items) c.in_ok-used.used) s defs at es
     state same c.of_side.ensures (ap₂ (λ (z : State) (ids : List EdgeId). free_edges z ids) state c.as_slice.ensures.value ∙ c.in_ok-blocked.ensures)
     (c.in_ok-used.ensures (w.know s) (tells_at w s (half j c.args.side).state state t)
     ∙ ap (λ (z : List Term). edges_of (first_cover (w.know s) defs c.args.pred (plain at) z es)) c.as_slice-2.ensures.value)

@@ -31,10 +31,13 @@ returns c = λ w same t.
     let es = free_edges s c.as_slice-2.result.now in
     let state : s ≡ (half j c.args.side).state = ap (λ (z : Half). z.state) c.half-half.ensures.is in
     c.seg_with.ensures
-    ∙ (found_by w j c.args.side p (λ know ds n es. first_seg_cover know ds pred n args (plain last) ends es) (seg_with args last ends) (option_map (λ ids. ids.items) c.in_ok-used.used) s defs at es
+    ∙ (found_by w j c.args.side p (λ know ds n es. first_seg_cover know ds pred n args (plain last) ends es) (seg_with args last ends)
+    (option_map (λ ids. ids.items) c.in_ok-used.used) s defs at es
     state same c.of_side-at.ensures (ap₂ (λ (z : State) (ids : List EdgeId). free_edges z ids) state c.as_slice-2.ensures.value ∙ c.in_ok-blocked.ensures)
     (c.in_ok-used.ensures (w.know s) (tells_at w s (half j c.args.side).state state t)
-    ∙ ap₂ (λ (ts us : List Term). edges_of (first_seg_cover (w.know s) defs pred (plain at) ts (plain last) us es)) c.as_slice-3.ensures.value c.as_slice-4.ensures.value)
+    ∙ ap₂ (λ (ts us : List Term). edges_of (first_seg_cover (w.know s) defs pred (plain at) ts (plain last) us es))
+    c.as_slice-3.ensures.value c.as_slice-4.ensures.value)
     ∙ ap (λ (ts : List Term). seg_fold_with w j c.args.side p pred ts last ends)
     (c.in_ok-args.ensures w same (tells_same w s (half j c.args.side).state state t)
-    ∙ same_stop w pred last (seen_half h) (half j c.args.side) at (of_side c.args.side p) c.as_slice.result.now ends c.half-half.ensures.is c.of_side-at.ensures c.as_slice.ensures.value))
+    ∙ same_stop w pred last (seen_half h) (half j c.args.side) at (of_side c.args.side p) c.as_slice.result.now ends
+    c.half-half.ensures.is c.of_side-at.ensures c.as_slice.ensures.value))

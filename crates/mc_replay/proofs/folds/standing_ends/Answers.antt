@@ -17,5 +17,6 @@ returns c =
     is
     ∙ ap (λ (ns : List NodeId). map plain ns)
     (c.as_slice.ensures.value
-    ∙ (c.in_ok-nodes.ensures w same (tells_same w s (half j c.args.side).state state t) ∙ ap (λ (z : Half). standing_args w z c.args.pred c.args.end) c.half.ensures.is)))
+    ∙ (c.in_ok-nodes.ensures w same (tells_same w s (half j c.args.side).state state t)
+    ∙ ap (λ (z : Half). standing_args w z c.args.pred c.args.end) c.half.ensures.is)))
     c.plain_all.ensures
