@@ -1,5 +1,5 @@
 -- What the lines that change the states of a cut give, after their first two premises.
-use Rattle.std.specs.Prelude.{◌≡◌, ◌==◌, ◌&&◌, not, ℕ, ℤ, List, [], ◌∷◌, Option, Some, None, Result, Ok, length, map, slice_get}
+use Rattle.std.specs.Prelude.{◌≡◌, ◌==◌, ◌&&◌, not, ℕ, ℤ, List, ◌∷◌, Option, Some, None, Result, Ok, length, map, slice_get}
 use Rattle.std.specs.List.{AllByRecursion, list_all}
 use denote.Bor.{Bor}
 use Rattle.mc_base.specs.declared.plain.VarInfo.{VarInfo}

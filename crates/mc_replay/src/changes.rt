@@ -1,6 +1,6 @@
 // What the lines that change the states of a cut give there. Whether such a line may stand at a branch, and that its state is not
 // false, is known before.
-ghost use Rattle.std.specs.Prelude.{◌≡◌, ◌↔◌, ◌∷◌, [], All, IfOk, IsTrue, length, slice_get};
+ghost use Rattle.std.specs.Prelude.{◌≡◌, ◌↔◌, ◌∷◌, All, IfOk, IsTrue, length, slice_get};
 ghost use Rattle.std.specs.Option.{option_copied};
 ghost use Rattle.std.specs.List.{AllByRecursion};
 ghost use Rattle.mc_base.specs.Ranges.Ends.{IsInt};
@@ -148,21 +148,21 @@ pub fn rejoined(
     defs: &Defs,
     lefts: &[&State],
     own: &State,
-    j: u64,
+    number: u64,
     steps: &[JoinStep],
     round: u64,
     thresholds: &[i64],
 ) -> Result<Result<State, u8>, NoMemory>
     requires made { AreMadeFor defs.now (own.now ∷ states_held lefts.now) }
     requires ints { All IsInt thresholds.now }
-    ensures { IfOk result (IsRejoined defs.now round thresholds.now (states_held lefts.now) j steps.now own.now) }
+    ensures { IfOk result (IsRejoined defs.now round thresholds.now (states_held lefts.now) number steps.now own.now) }
 {
     // for the proof alone
     made_are_told();
     joins_name_all();
     joins_make_well();
     joins_are_determined();
-    let Some(left) = state_at(lefts, j) else {
+    let Some(left) = state_at(lefts, number) else {
         return Ok(Err(3));
     };
     if !is_tidy(alloc, own)? {

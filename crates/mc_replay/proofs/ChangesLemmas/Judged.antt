@@ -1,10 +1,8 @@
 -- C2 and C3 are judged by their premises, one after the other.
-use Rattle.std.proofs.Common.{◌≡◌, ◌↔◌, ℕ, ℤ, List, [], ◌∷◌, Bool, true, false, Option, Some, None, length, slice_get, refl, ap, sym, ◌∙◌, subst, Ok, Err}
+use Rattle.std.proofs.Common.{◌≡◌, ◌↔◌, ℕ, ℤ, List, ◌∷◌, Bool, true, false, Option, Some, None, length, slice_get, refl, ap, sym, ◌∙◌, subst, Ok, Err}
 use Rattle.std.specs.Prelude.{◌&&◌, ◌==◌, not}
 use Rattle.std.specs.List.{AllByRecursion, list_all}
-use Rattle.mc_base.specs.declared.plain.VarInfo.{VarInfo}
 use Rattle.mc_flow.specs.declared.defs.rules.Def.{Def}
-use Rattle.mc_flow.specs.declared.defs.shapes.StructInfo.{StructInfo}
 use Rattle.mc_flow.specs.declared.graph.Flow.{Flow}
 use Rattle.mc_state.specs.declared.line.JoinStep.{JoinStep}
 use Rattle.mc_state.specs.Facts.{IsTidy}
@@ -17,7 +15,6 @@ use Rattle.mc_state.proofs.Lists.{all_both as both_hold, all_at, all_map}
 use Rattle.mc_joins.specs.Alike.Named.{AllNamed, AreSameBySome}
 use Rattle.mc_joins.specs.Joinings.{Joining}
 use Rattle.mc_joins.specs.Laws.{JoinsAreDetermined, JoinsMakeWell, JoinsNameAll, MadeAreTold}
-use Rattle.mc_joins.specs.Parts.{Basis}
 use Rattle.mc_joins.specs.Same.Same.{anew}
 use Rattle.mc_joins.specs.Whole.{Joins}
 use Rattle.mc_joins.specs.Chains.Judges.{Lore, basis, whole_join, gets_stuck, given_by}

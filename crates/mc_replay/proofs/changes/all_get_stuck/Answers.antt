@@ -1,10 +1,8 @@
-use Rattle.std.proofs.Common.{◌≡◌, ◌<◌, ◌≤◌, Bool, true, false, List, get_or, length, refl, sym, ap₂, ◌∙◌, subst, arith}
+use Rattle.std.proofs.Common.{◌≡◌, ◌<◌, ◌≤◌, true, false, List, get_or, length, sym, ap₂, ◌∙◌, subst, arith}
 use denote.Bor.{Bor}
-use Rattle.mc_state.specs.Lists.{all_both}
 use Rattle.mc_state.specs.State.{State}
 use Rattle.mc_state.specs.declared.line.JoinStep.{JoinStep}
 use Rattle.mc_joins.specs.Chains.Judges.{gets_stuck}
-use Rattle.mc_replay.specs.Changes.{states_held}
 use Rattle.mc_replay.specs.Whole.{MayJoin, TellsOf}
 use Rattle.mc_replay.proofs.ChangesLemmas.Held.{held_at, both_yes, both_no, both_end}
 use Rattle.mc_replay.proofs.changes.all_get_stuck.Goals as goal
