@@ -14,6 +14,7 @@ mod NamedStand
 mod JointStands
 mod SideParts
 mod SideStands
+mod JoinNamed
 mod JoinsStand
 mod ExampleStands
 mod JointExamples

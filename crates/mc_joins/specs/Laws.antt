@@ -12,6 +12,7 @@ use Rattle.mc_state.specs.Facts.{IsFalse}
 use Rattle.mc_state.specs.Fits.{IsWellMade}
 use Rattle.mc_state.specs.Stands.{Stands}
 use Rattle.mc_state.specs.State.{State}
+use Rattle.mc_joins.specs.Alike.Named.{AllNamed}
 use Rattle.mc_joins.specs.Joinings.{Joining, begun, next_pair}
 use Rattle.mc_joins.specs.Parts.{Basis}
 use Rattle.mc_joins.specs.Steps.{after_step, after_steps, is_stuck}
@@ -26,6 +27,12 @@ StuckIsEvery =
 -- the tests tell what is entailed in each well-made state
 abbrev pub KnowsMade : List Def → List VarInfo → List StructInfo → (State → Test) → Type 0
 KnowsMade defs vars structs know = (s : State) → IsWellMade defs vars structs s → Tells (know s) s
+
+-- there are such tests
+abbrev pub MadeAreTold : Type 0
+MadeAreTold =
+    (defs : List Def) (vars : List VarInfo) (structs : List StructInfo)
+    → (know : State → Test) × KnowsMade defs vars structs know
 
 -- a step of a join of well-made states depends on what is entailed in states and on nothing else: there is one join
 -- that it gives, or it does not apply, by whatever tests tell that
@@ -80,6 +87,14 @@ JoinsMakeWell =
     (left right : State) (steps : List JoinStep) (t : State)
     → KnowsMade defs vars structs know → IsWellMade defs vars structs left → IsWellMade defs vars structs right
     → Joins (record { know = know; defs = defs }) round thresholds left right steps t → IsWellMade defs vars structs t
+
+-- and each node of it but node 0 stands in a variable or in an edge
+abbrev pub JoinsNameAll : Type 0
+JoinsNameAll =
+    (defs : List Def) (vars : List VarInfo) (structs : List StructInfo) (know : State → Test) (round : ℕ) (thresholds : List ℤ)
+    (left right : State) (steps : List JoinStep) (t : State)
+    → KnowsMade defs vars structs know → IsWellMade defs vars structs left → IsWellMade defs vars structs right
+    → Joins (record { know = know; defs = defs }) round thresholds left right steps t → AllNamed t
 
 -- whatever stands for either of two well-made states stands for what a whole join of them gives
 abbrev pub JoinsAreSound : Type 0

@@ -6,3 +6,4 @@ pub mod FoldLemmas
 pub mod StepLemmas
 pub mod WholeLemmas
 pub mod ReplayLemmas
+pub mod ChangesLemmas

@@ -6,6 +6,7 @@ use Rattle.mc_flow.specs.declared.defs.rules.Def.{Def}
 use Rattle.mc_state.specs.declared.line.JoinStep.{JoinStep}
 use Rattle.mc_state.specs.State.{State}
 use Rattle.mc_joins.specs.Joinings.{Joining, begun}
+use Rattle.mc_joins.specs.Laws.{MadeAreTold}
 use Rattle.mc_joins.specs.Parts.{Basis}
 use Rattle.mc_joins.specs.Steps.{after_step, after_steps}
 use Rattle.mc_replay.specs.declared.answers.Replayed.{Replayed}
@@ -14,7 +15,7 @@ use Rattle.mc_replay.specs.declared.joining.Joining.{Joining as Kept}
 use Rattle.mc_replay.specs.Good.{AreGood}
 use Rattle.mc_replay.specs.Joined.{seen}
 use Rattle.mc_replay.specs.Named.{IsGood, TellsFrom}
-use Rattle.mc_replay.specs.Replayed.{IsAnswer, IsReplay, IsWrong, TestsAreThere}
+use Rattle.mc_replay.specs.Replayed.{IsAnswer, IsReplay, IsWrong}
 use Rattle.mc_replay.specs.Steps.{ComesTo, ForTests, TellsBoth}
 use Rattle.mc_replay.specs.Whole.{IsReached, MayJoin, TellsOf}
 
@@ -99,7 +100,7 @@ module _ (defs : List Def) (left right : State) (states : MayJoin defs left righ
   leads_all : (w : Basis) → w.defs ≡ defs → TellsOf w left right → LeadsTo w left right steps j
   leads_all w d t = subst (λ (z : List JoinStep). LeadsTo w left right z j) (take_all steps i all) (leads w d t)
 
-  pub is_reached : TestsAreThere → IsReached left right (seen j)
+  pub is_reached : MadeAreTold → IsReached left right (seen j)
   is_reached tests =
       let test = tests defs states.program.vars states.program.structs in
       let basis : Basis = record { know = test.0; defs = defs } in

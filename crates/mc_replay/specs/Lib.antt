@@ -8,3 +8,4 @@ pub mod Folds
 pub mod Steps
 pub mod Whole
 pub mod Replayed
+pub mod Changes

@@ -1,24 +1,14 @@
 -- How far steps lead.
 use Rattle.std.specs.Prelude.{◌≡◌, ◌≢◌, ◌++◌, ℕ, suc, ℤ, Bool, List, ◌∷◌, Some, None, length}
-use Rattle.mc_base.specs.declared.plain.VarInfo.{VarInfo}
-use Rattle.mc_flow.specs.declared.defs.rules.Def.{Def}
-use Rattle.mc_flow.specs.declared.defs.shapes.StructInfo.{StructInfo}
 use Rattle.mc_pure_ops.specs.Join.Joint.{Pairs}
 use Rattle.mc_state.specs.declared.line.JoinStep.{JoinStep}
-use Rattle.mc_state.specs.Known.{Test}
 use Rattle.mc_state.specs.State.{State}
 use Rattle.mc_joins.specs.Joinings.{Joining, begun, next_pair}
-use Rattle.mc_joins.specs.Laws.{KnowsMade}
 use Rattle.mc_joins.specs.Parts.{Basis}
 use Rattle.mc_joins.specs.Steps.{after_step, after_steps, is_stuck}
 use Rattle.mc_joins.specs.Whole.{AreJointAtoms, Joins, result_of}
 use Rattle.mc_replay.specs.declared.answers.Replayed.{Replayed}
 use Rattle.mc_replay.specs.declared.answers.Replayed.TheVariants.{Done, Open, Wrong}
-
--- each program has tests that tell what is entailed in its states
-abbrev pub TestsAreThere : Type 0
-TestsAreThere =
-    (defs : List Def) (vars : List VarInfo) (structs : List StructInfo) → (know : State → Test) × KnowsMade defs vars structs know
 
 -- all of the steps apply, and lead to a join with these pairs that has a next pair; stuck or not
 pub record IsOpen (w : Basis) (left right : State) (steps : List JoinStep) (pairs : Pairs) (stuck : Bool) : Type 0 where

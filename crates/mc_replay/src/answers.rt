@@ -4,7 +4,7 @@ ghost use Rattle.mc_base.specs.Ranges.Ends.{IsInt};
 ghost use Rattle.mc_joins.specs.Parts.{Basis};
 ghost use Rattle.mc_replay.specs.Good.{AreGood};
 ghost use Rattle.mc_replay.specs.Joined.{seen};
-ghost use Rattle.mc_replay.specs.Replayed.{IsAnswer, IsReplay, TestsAreThere};
+ghost use Rattle.mc_replay.specs.Replayed.{IsAnswer, IsReplay};
 ghost use Rattle.mc_replay.specs.Steps.{ForTests};
 ghost use Rattle.mc_replay.specs.Whole.{IsReached, MayJoin, TellsOf};
 
@@ -14,7 +14,7 @@ use crate::steps::{is_stuck, take_step};
 use crate::whole::joined_state;
 use mc_base::NoMemory;
 use mc_flow::defs::Defs;
-use mc_rules_logic::listed::lists_are_there;
+use mc_joins::made_are_told;
 use mc_state::JoinStep;
 use mc_symbolic::State;
 use std::alloc::Global;
@@ -28,14 +28,6 @@ pub enum Replayed {
     Open { pairs: Vec<Pair>, stuck: bool },
     /// The step with this number, counted from 1, is the first that does not apply.
     Wrong(u64),
-}
-
-/// There are tests that tell what is entailed in states of a program.
-fn tests_are_there()
-    ensures { TestsAreThere }
-{
-    mc_pure::each_is_decided();
-    lists_are_there();
 }
 
 /// Where the join has come to its end what it gives, else whether it is stuck.
@@ -89,7 +81,7 @@ pub fn replay(
     ensures { IfOk result (λ replayed. (w : Basis) → w.defs ≡ defs.now → TellsOf w left.now right.now
         → IsReplay w round thresholds.now left.now right.now steps.now replayed) }
 {
-    tests_are_there();
+    made_are_told();
     let mut join = begin(alloc, left, right)?;
     for (place, step) in steps.iter().enumerate() {
         if !take_step(alloc, &mut join, defs, *step)? {

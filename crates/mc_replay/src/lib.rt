@@ -7,11 +7,14 @@
 //! - `naming`, `covers`: nodes of terms, the edges that the first cover takes, arguments, likewise.
 //! - `folds`, `steps`, `whole`: what a side gives to a step, the steps, whether any applies, and what a whole join gives,
 //!   likewise.
-//! - `answers`: `replay`, the only function that is public: whether steps are a whole join, and what it gives; whether they
-//!   lead to a join at which a step is left or none applies; or which of them is the first that does not apply.
+//! - `answers`: `replay`: whether steps are a whole join, and what it gives; whether they lead to a join at which a step is
+//!   left or none applies; or which of them is the first that does not apply.
+//! - `changes`: what the lines of chains give that change the states of a cut, after their first two premises: `opened` of
+//!   C2, `rejoined` of C3, the state that the cut gets, or the first premise that is unmet.
 #![tactic(auto)]
 
 mod answers;
+mod changes;
 mod covers;
 mod edges;
 mod folds;
@@ -24,4 +27,5 @@ mod steps;
 mod whole;
 
 pub use answers::{Replayed, replay};
+pub use changes::{changes_are_parted, opened, rejoined};
 pub use pairs::Pair;

@@ -29,7 +29,7 @@ returns-then-not-branch c = λ w d t.
 pub answer-requires-clause-reached : goal.answer-requires-clause-reached
 answer-requires-clause-reached c =
     is_reached c.args.defs.now c.args.left.now c.args.right.now c.requires.states c.args.steps.now c.loop-place.place c.loop-place-test.false c.loop-place.join
-    c.loop-place.invariant.reached c.tests_are_there.ensures
+    c.loop-place.invariant.reached c.made_are_told.ensures
 
 pub returns : goal.returns
 returns c =
