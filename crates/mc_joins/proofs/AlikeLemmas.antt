@@ -1,4 +1,5 @@
 pub mod Images
+pub mod Links
 pub mod Places
 pub mod Same
 pub mod Tidiness

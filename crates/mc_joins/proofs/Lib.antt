@@ -1,6 +1,7 @@
 mod Members
 mod Stuck
 mod Once
+mod Agree
 mod Counter
 mod Keeping
 mod Steady
@@ -13,6 +14,7 @@ mod NamedStand
 mod JointStands
 mod SideParts
 mod SideStands
+mod JoinNamed
 mod JoinsStand
 mod ExampleStands
 mod JointExamples

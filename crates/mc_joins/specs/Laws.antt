@@ -12,6 +12,7 @@ use Rattle.mc_state.specs.Facts.{IsFalse}
 use Rattle.mc_state.specs.Fits.{IsWellMade}
 use Rattle.mc_state.specs.Stands.{Stands}
 use Rattle.mc_state.specs.State.{State}
+use Rattle.mc_joins.specs.Alike.Named.{AllNamed}
 use Rattle.mc_joins.specs.Joinings.{Joining, begun, next_pair}
 use Rattle.mc_joins.specs.Parts.{Basis}
 use Rattle.mc_joins.specs.Steps.{after_step, after_steps, is_stuck}
@@ -80,6 +81,14 @@ JoinsMakeWell =
     (left right : State) (steps : List JoinStep) (t : State)
     → KnowsMade defs vars structs know → IsWellMade defs vars structs left → IsWellMade defs vars structs right
     → Joins (record { know = know; defs = defs }) round thresholds left right steps t → IsWellMade defs vars structs t
+
+-- and each node of it but node 0 stands in a variable or in an edge
+abbrev pub JoinsNameAll : Type 0
+JoinsNameAll =
+    (defs : List Def) (vars : List VarInfo) (structs : List StructInfo) (know : State → Test) (round : ℕ) (thresholds : List ℤ)
+    (left right : State) (steps : List JoinStep) (t : State)
+    → KnowsMade defs vars structs know → IsWellMade defs vars structs left → IsWellMade defs vars structs right
+    → Joins (record { know = know; defs = defs }) round thresholds left right steps t → AllNamed t
 
 -- whatever stands for either of two well-made states stands for what a whole join of them gives
 abbrev pub JoinsAreSound : Type 0

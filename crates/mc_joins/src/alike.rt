@@ -7,6 +7,7 @@ ghost use Rattle.mc_joins.specs.Alike.Alike.{AreSameBy};
 mod atoms;
 mod lists;
 mod nodes;
+mod same;
 mod tidy;
 
 use atoms::{all_known_back, all_known_there};
@@ -14,6 +15,7 @@ use lists::{are_edge_images, are_option_images};
 use mc_pure_ops::renaming::Renaming;
 use mc_symbolic::State;
 use nodes::is_bijection;
+pub use same::are_same;
 pub use tidy::is_tidy;
 
 /// Whether two flags are both set, or both not.

@@ -1,6 +1,6 @@
 // What holds of the steps of joins. Each law is what a function with no body ensures.
 ghost use Rattle.mc_joins.specs.Laws.{StuckIsEvery, JoinsAreDetermined, JoinsAreSound, JoinsAreThere};
-ghost use Rattle.mc_joins.specs.Laws.{JoinsMakeWell, StepsAreDetermined, StepsKeepMade, PrefixesAreDetermined};
+ghost use Rattle.mc_joins.specs.Laws.{JoinsMakeWell, JoinsNameAll, StepsAreDetermined, StepsKeepMade, PrefixesAreDetermined};
 
 use crate::same::derived_is_renamed;
 use mc_cover::firsts_are_covers;
@@ -52,6 +52,16 @@ pub fn joins_are_there()
 /// What a whole join of well-made states gives is well made.
 pub fn joins_make_well()
     ensures { JoinsMakeWell }
+{
+    naming_is_judged();
+    naming_makes_well();
+    nodes_are_there();
+    tests_tell();
+}
+
+/// Each node of what a whole join of well-made states gives stands in a variable or in an edge, but for node 0.
+pub fn joins_name_all()
+    ensures { JoinsNameAll }
 {
     naming_is_judged();
     naming_makes_well();

@@ -19,6 +19,6 @@ pub use examples::{
     tied_counters_join, turned_joins,
 };
 pub use laws::{
-    joins_are_determined, joins_are_sound, joins_are_there, joins_make_well, steps_are_determined,
-    stuck_is_every,
+    joins_are_determined, joins_are_sound, joins_are_there, joins_make_well, joins_name_all,
+    steps_are_determined, stuck_is_every,
 };

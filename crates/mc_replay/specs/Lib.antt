@@ -4,3 +4,5 @@ pub mod Covers
 pub mod Joined
 pub mod Forms
 pub mod Good
+pub mod Replayed
+pub mod Changes

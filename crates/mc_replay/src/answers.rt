@@ -1,8 +1,10 @@
 // The steps of a join, one after the other.
-ghost use Rattle.std.specs.Prelude.{All};
+ghost use Rattle.std.specs.Prelude.{◌≡◌, All, IfOk};
 ghost use Rattle.mc_base.specs.Ranges.Ends.{IsInt};
 ghost use Rattle.mc_replay.specs.Good.{AreGood};
-ghost use Rattle.mc_replay.specs.Named.{IsGood};
+ghost use Rattle.mc_joins.specs.Parts.{Basis};
+ghost use Rattle.mc_replay.specs.Named.{IsGood, TellsFrom};
+ghost use Rattle.mc_replay.specs.Replayed.{IsReplayed};
 
 use crate::joining::{Joining, begin};
 use crate::pairs::Pair;
@@ -66,6 +68,8 @@ pub fn replay(
     requires left { IsGood left.now }
     requires right { IsGood right.now }
     requires ints { All IsInt thresholds.now }
+    ensures { IfOk result (λ answer. (w : Basis) → w.defs ≡ defs.now → TellsFrom w left.now → TellsFrom w right.now
+        → IsReplayed w round thresholds.now left.now right.now steps.now answer) }
 {
     let mut join = begin(alloc, left, right)?;
     let mut number: u64 = 1;

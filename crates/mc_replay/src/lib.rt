@@ -10,6 +10,7 @@
 #![tactic(auto)]
 
 mod answers;
+mod changes;
 mod covers;
 mod edges;
 mod folds;

@@ -21,6 +21,7 @@ use Rattle.mc_state.specs.Fits.{AreNodes, IsBounded}
 use Rattle.mc_state.specs.Laws.{moved_kinds}
 use Rattle.mc_joins.specs.Same.Same.{place_from, anew, numbered_graph}
 use Rattle.mc_joins.specs.Anew.Numbers.{AreNumbers, numbered_nodes}
+use Rattle.mc_joins.proofs.Agree.{nodes_moved, env_same, atom_same, edge_same}
 use Rattle.mc_joins.proofs.AnewLemmas.Lists.{all_over, long_map}
 use Rattle.mc_joins.proofs.AnewLemmas.Numbering.{below_none}
 use Rattle.mc_joins.proofs.AnewLemmas.Filling.{graph_of}
@@ -140,60 +141,24 @@ module _ (kinds : Kinds) (rise : RiseFrom 1 kinds) (images : Images) (numbers : 
   vars_there env h = all_there (known_nodes env) h
 
   -- the nodes of an edge's image
-  known_moved : (fields : List (Option NodeId)) → known_nodes (map (option_map (moved f)) fields) ≡ map (moved f) (known_nodes fields)
-  known_moved [] = refl
-  known_moved (None ∷ fields) = known_moved fields
-  known_moved (Some n ∷ fields) = ap (λ (z : List NodeId). moved f n ∷ z) (known_moved fields)
-
-  append_moved : (xs ys : List NodeId) → map (moved f) (xs ++ ys) ≡ map (moved f) xs ++ map (moved f) ys
-  append_moved [] ys = refl
-  append_moved (x ∷ xs) ys = ap (λ (z : List NodeId). moved f x ∷ z) (append_moved xs ys)
-
-  nodes_moved : (e : Edge) → nodes_of (moved_edge f e) ≡ map (moved f) (nodes_of e)
-  nodes_moved (Block at shape fields) = ap (λ (z : List NodeId). moved f at ∷ z) (known_moved fields)
-  nodes_moved (Ind at pred args) = refl
-  nodes_moved (Seg at args pred «end» ends) = ap (λ (z : List NodeId). moved f at ∷ z) (sym (append_moved args («end» ∷ ends)))
-
   edge_there : (e : EdgeId × Edge) → AreNodes kinds (nodes_of e.1) → AreNodes (moved_kinds g kinds) (nodes_of (moved_edge f e.1))
-  edge_there e h = subst (λ (z : List NodeId). AreNodes (moved_kinds g kinds) z) (sym (nodes_moved e.1)) (all_there (nodes_of e.1) h)
+  edge_there e h = subst (λ (z : List NodeId). AreNodes (moved_kinds g kinds) z) (sym (nodes_moved f e.1)) (all_there (nodes_of e.1) h)
 
   pub edges_there : (es : Edges) → AllByRecursion (λ e. AreNodes kinds (nodes_of e.1)) es → AllByRecursion (λ e. AreNodes (moved_kinds g kinds) (nodes_of (moved_edge f e.1))) es
   edges_there es h = all_over (λ (e : EdgeId × Edge). AreNodes kinds (nodes_of e.1)) (λ (e : EdgeId × Edge). AreNodes (moved_kinds g kinds) (nodes_of (moved_edge f e.1))) es edge_there h
 
   -- ---- the same by places
 
-  env_same : (env : List (Option NodeId)) → AreNodes kinds (known_nodes env) → map (option_map (moved f)) env ≡ map (option_map (moved g)) env
-  env_same [] h = refl
-  env_same (None ∷ env) h = ap (λ (z : List (Option NodeId)). None ∷ z) (env_same env h)
-  env_same (Some n ∷ env) h = rw (moves n h.0, env_same env h.1) refl
-
-  nodes_same : (ns : List NodeId) → AreNodes kinds ns → map (moved f) ns ≡ map (moved g) ns
-  nodes_same [] h = refl
-  nodes_same (n ∷ ns) h = rw (moves n h.0, nodes_same ns h.1) refl
-
-  atom_same : (a : Atom) → AreNodes kinds (nodes_of_atom a) → moved_atom f a ≡ moved_atom g a
-  atom_same (Eq a b c) h = rw (moves a h.0, moves b h.1.0) refl
-  atom_same (Ne a b c) h = rw (moves a h.0, moves b h.1.0) refl
-  atom_same (In a lo hi) h = rw (moves a h.0) refl
+  vars_same : (env : List (Option NodeId)) → AreNodes kinds (known_nodes env) → map (option_map (moved f)) env ≡ map (option_map (moved g)) env
+  vars_same env h = env_same kinds f g moves env h
 
   atoms_same : (atoms : List Atom) → AllByRecursion (λ a. AreNodes kinds (nodes_of_atom a)) atoms → map (moved_atom f) atoms ≡ map (moved_atom g) atoms
   atoms_same [] h = refl
-  atoms_same (a ∷ atoms) h = rw (atom_same a h.0, atoms_same atoms h.1) refl
-
-  first_there : (xs ys : List NodeId) → AreNodes kinds (xs ++ ys) → AreNodes kinds xs × AreNodes kinds ys
-  first_there [] ys h = (tt, h)
-  first_there (x ∷ xs) ys h = let k = first_there xs ys h.1 in ((h.0, k.0), k.1)
-
-  edge_same : (e : Edge) → AreNodes kinds (nodes_of e) → moved_edge f e ≡ moved_edge g e
-  edge_same (Block at shape fields) h = rw (moves at h.0, env_same fields h.1) refl
-  edge_same (Ind at pred args) h = rw (moves at h.0, nodes_same args h.1) refl
-  edge_same (Seg at args pred «end» ends) h =
-      let k = first_there args («end» ∷ ends) h.1 in
-      rw (moves at h.0, nodes_same args k.0, moves «end» k.1.0, nodes_same ends k.1.1) refl
+  atoms_same (a ∷ atoms) h = rw (atom_same kinds f g moves a h.0, atoms_same atoms h.1) refl
 
   edges_same : (es : Edges) → AllByRecursion (λ e. AreNodes kinds (nodes_of e.1)) es → map (edge_by f) es ≡ map edge_in (map (entry_by g) es)
   edges_same [] h = refl
-  edges_same (e ∷ es) h = rw (edge_same e.1 h.0, edges_same es h.1) refl
+  edges_same (e ∷ es) h = rw (edge_same kinds f g moves e.1 h.0, edges_same es h.1) refl
 
   graph_same : (graph : Graph) → AllByRecursion (λ e. AreNodes kinds (nodes_of e.1)) graph.edges → with_new no_edges (map (edge_by f) graph.edges) ≡ numbered_graph (moved_graph g graph)
   graph_same graph h =
@@ -220,7 +185,7 @@ pub all_anew : (s : State) (images : Images) (fresh vars atoms edges whole : Sta
     → whole ≡ record edges { whole = s.whole }
     → whole ≡ anew s
 all_anew s images fresh vars atoms edges whole rise bounded numbers a b c d e =
-    let env = env_same s.kinds rise images numbers s.env bounded.vars in
+    let env = vars_same s.kinds rise images numbers s.env bounded.vars in
     let facts = atoms_same s.kinds rise images numbers s.atoms bounded.atoms in
     let graph = graph_same s.kinds rise images numbers s.graph bounded.edges in
     let first = b ∙ ap (λ (z : State). record z { env = map (option_map (moved (image images))) s.env }) a in
