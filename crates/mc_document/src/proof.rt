@@ -12,3 +12,4 @@ pub use fault::{ApplyFault, Complete};
 pub use mc_check_line::Branch;
 pub use proof::Proof;
 pub use stack::Stack;
+pub use stage::Stage;

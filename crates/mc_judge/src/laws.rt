@@ -1,6 +1,6 @@
 //! What holds of documents of which some lines are read.
 
-ghost use Rattle.mc_document.specs.Judge.Laws.{OpenDocumentsEndEarly};
+ghost use Rattle.mc_judge.specs.Judge.Laws.{OpenDocumentsEndEarly};
 
 use mc_kernel::reading::refusals_are_one;
 use mc_lines::cert::{line_is_spelled_once, spelled_lines_are_read};

@@ -3,7 +3,7 @@ use Rattle.std.proofs.Common.{◌≡◌, ◌≢◌, ◌⊎◌, inl, inr, ℕ, ze
 use Rattle.std.proofs.lemmas.Bool.Decides.{nat_tests}
 use Rattle.std.proofs.lemmas.List.{take_all, length-drop}
 use Rattle.mc_lines.specs.Cert.Lines.{line_len}
-use Rattle.mc_document.specs.Judge.Cuts.{HasNoFeed}
+use Rattle.mc_judge.specs.Judge.Cuts.{HasNoFeed}
 
 yes : (a b : ℕ) → a ≡ b → nat_eq a b ≡ true
 yes a b e = grind (arith, nat_tests)

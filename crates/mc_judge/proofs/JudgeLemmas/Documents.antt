@@ -18,9 +18,9 @@ use Rattle.mc_kernel.specs.Readings.{Reading, Stage, begun, behind, finished, re
 use Rattle.mc_kernel.specs.Reading.Documents.{reading_document}
 use Rattle.mc_kernel.specs.Reading.Laws.{LinesAreAdded, ReadIsNotRefused}
 use Rattle.mc_kernel.proofs.ReadingLemmas.Lists.{append_twice}
-use Rattle.mc_document.specs.declared.judge.verdict.Refusal.{Refusal}
-use Rattle.mc_document.specs.declared.judge.verdict.Refusal.TheVariants as refusal
-use Rattle.mc_document.specs.Judge.Verdicts.{GoesOn, IsReading, IsRefusal, IsRefusedBehind, IsUnmetBehind, SpellAll}
+use Rattle.mc_judge.specs.declared.judge.verdict.Refusal.{Refusal}
+use Rattle.mc_judge.specs.declared.judge.verdict.Refusal.TheVariants as refusal
+use Rattle.mc_judge.specs.Judge.Verdicts.{GoesOn, IsReading, IsRefusal, IsRefusedBehind, IsUnmetBehind, SpellAll}
 
 -- bytes spell one line at most
 abbrev pub Once : Type 0

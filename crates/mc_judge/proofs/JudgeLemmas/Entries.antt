@@ -8,7 +8,7 @@ use Rattle.mc_lines.specs.Cert.Entries.{count_data, edge_id_data, form_data, ind
 use Rattle.mc_lines.specs.Cert.Entries.{named_data, node_data, point_data, pred_data, seg_entries, signed_data}
 use Rattle.mc_lines.specs.Cert.Entries.{state_data, step_data, version_data}
 use Rattle.mc_lines.specs.Cert.Document.{data_of}
-use Rattle.mc_document.specs.Judge.Verdicts.{IsNamed}
+use Rattle.mc_judge.specs.Judge.Verdicts.{IsNamed}
 
 -- what stands after the name
 abbrev pub entries : Line → List Data

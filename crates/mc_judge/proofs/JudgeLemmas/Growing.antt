@@ -4,8 +4,8 @@ use Rattle.std.specs.Prelude.{if◌then◌else◌}
 use Rattle.std.specs.List.{AllByRecursion}
 use Rattle.mc_lines.specs.Cert.Lines.{lines_of, onto_first}
 use Rattle.mc_kernel.proofs.ReadingLemmas.Lists.{all_end, append_none}
-use Rattle.mc_document.proofs.JudgeLemmas.Cutting.{begins_otherwise, first_has, no, none_has, rest_has}
-use Rattle.mc_document.specs.Judge.Cuts.{HasNoFeed, IsCut, with_feeds}
+use Rattle.mc_judge.proofs.JudgeLemmas.Cutting.{begins_otherwise, first_has, no, none_has, rest_has}
+use Rattle.mc_judge.specs.Judge.Cuts.{HasNoFeed, IsCut, with_feeds}
 
 -- ---- pieces
 

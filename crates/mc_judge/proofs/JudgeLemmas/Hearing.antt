@@ -10,18 +10,18 @@ use Rattle.mc_state.specs.declared.raw_state.RawState.{RawState}
 use Rattle.mc_kernel.specs.Judges.{Knowledge}
 use Rattle.mc_kernel.specs.Reading.Documents.{IsJudge}
 use Rattle.mc_kernel.proofs.ReadingLemmas.Lists.{append_none}
-use Rattle.mc_document.specs.Judge.Cuts.{HasNoFeed, IsCut}
-use Rattle.mc_document.specs.declared.judge.judge.Judge.{Judge}
-use Rattle.mc_document.specs.declared.judge.stage.Stage.{Stage}
-use Rattle.mc_document.specs.declared.judge.stage.Stage.TheVariants.{Unbegun, Open, Ended, Refused, Spent}
-use Rattle.mc_document.specs.declared.judge.verdict.Refusal.{Refusal}
-use Rattle.mc_document.specs.Judge.Stages.{HasHeard, Hears, Holds, IsAt, Leads, StaysFor, needs_more}
+use Rattle.mc_judge.specs.Judge.Cuts.{HasNoFeed, IsCut}
+use Rattle.mc_judge.specs.declared.judge.judge.Judge.{Judge}
+use Rattle.mc_judge.specs.declared.judge.stage.Stage.{Stage}
+use Rattle.mc_judge.specs.declared.judge.stage.Stage.TheVariants.{Unbegun, Open, Ended, Refused, Spent}
+use Rattle.mc_judge.specs.declared.judge.verdict.Refusal.{Refusal}
+use Rattle.mc_judge.specs.Judge.Stages.{HasHeard, Hears, Holds, IsAt, Leads, StaysFor, needs_more}
 use Rattle.mc_kernel.specs.Reading.Laws.{ReadIsNotRefused}
-use Rattle.mc_document.specs.Judge.Verdicts.{IsRefusal}
-use Rattle.mc_document.proofs.JudgeLemmas.Documents.{AreRead, Once, not_refused, nothing_refused}
-use Rattle.mc_document.proofs.JudgeLemmas.Cutting.{no}
-use Rattle.mc_document.proofs.JudgeLemmas.Growing.{cut_line, cut_more, cuts_are_one}
-use Rattle.mc_document.proofs.JudgeLemmas.Standing.{at_end, at_end_open, holds_more, holds_nothing, line_at, move}
+use Rattle.mc_judge.specs.Judge.Verdicts.{IsRefusal}
+use Rattle.mc_judge.proofs.JudgeLemmas.Documents.{AreRead, Once, not_refused, nothing_refused}
+use Rattle.mc_judge.proofs.JudgeLemmas.Cutting.{no}
+use Rattle.mc_judge.proofs.JudgeLemmas.Growing.{cut_line, cut_more, cuts_are_one}
+use Rattle.mc_judge.proofs.JudgeLemmas.Standing.{at_end, at_end_open, holds_more, holds_nothing, line_at, move}
 
 -- what follows where a call succeeds
 pub on_ok : (A B : Type 0) (r : Result Unit AllocError) → OnOk r A → (A → B) → OnOk r B

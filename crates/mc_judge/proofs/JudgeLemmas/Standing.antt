@@ -20,15 +20,15 @@ use Rattle.mc_document.specs.declared.proof.fault.ApplyFault.TheVariants.{Premis
 use Rattle.mc_document.specs.Proof.Positions.{Applies, IsApplied, IsRefusedHere, Position, Stands, position_of}
 use Rattle.mc_kernel.specs.Reading.Documents.{IsJudge, IsKept}
 use Rattle.mc_kernel.specs.Reading.Laws.{BegunIsKept, LinesAreAdded, LinesKeep}
-use Rattle.mc_document.specs.Judge.Cuts.{IsCut}
-use Rattle.mc_document.specs.declared.judge.stage.Stage.{Stage}
-use Rattle.mc_document.specs.declared.judge.stage.Stage.TheVariants.{Unbegun, Open, Ended, Refused, Spent}
-use Rattle.mc_document.specs.declared.judge.verdict.Refusal.{Refusal}
-use Rattle.mc_document.specs.declared.judge.verdict.Refusal.TheVariants as refusal
-use Rattle.mc_document.specs.Judge.Stages.{Holds, IsAt, Leads}
-use Rattle.mc_document.specs.Judge.Verdicts.{IsNamed, IsReading, IsRefusal}
-use Rattle.mc_document.proofs.JudgeLemmas.Documents.{header_reads, more_reads, refusal_more, refused_end, unmet_behind}
-use Rattle.mc_document.proofs.JudgeLemmas.Growing.{lines_closed, lines_first, lines_open}
+use Rattle.mc_judge.specs.Judge.Cuts.{IsCut}
+use Rattle.mc_judge.specs.declared.judge.stage.Stage.{Stage}
+use Rattle.mc_judge.specs.declared.judge.stage.Stage.TheVariants.{Unbegun, Open, Ended, Refused, Spent}
+use Rattle.mc_judge.specs.declared.judge.verdict.Refusal.{Refusal}
+use Rattle.mc_judge.specs.declared.judge.verdict.Refusal.TheVariants as refusal
+use Rattle.mc_judge.specs.Judge.Stages.{Holds, IsAt, Leads}
+use Rattle.mc_judge.specs.Judge.Verdicts.{IsNamed, IsReading, IsRefusal}
+use Rattle.mc_judge.proofs.JudgeLemmas.Documents.{header_reads, more_reads, refusal_more, refused_end, unmet_behind}
+use Rattle.mc_judge.proofs.JudgeLemmas.Growing.{lines_closed, lines_first, lines_open}
 
 -- what holds of a flow graph and definitions holds of equal ones
 pub move : (P : Flow → List Def → Type 0) (f g : Flow) (d e : List Def) → f ≡ g → d ≡ e → P f d → P g e

@@ -23,12 +23,12 @@ use Rattle.mc_kernel.specs.Reading.Documents.{Ends, IsJudge, IsShortChain, readi
 use Rattle.mc_kernel.specs.Reading.Laws.{CertificatesAreRead, CertificatesStickNowhere, ChainsAreRead, ReadIsNotRefused}
 use Rattle.mc_kernel.proofs.ReadingLemmas.Kept.{some_is}
 use Rattle.mc_kernel.proofs.ReadingLemmas.Rules.{behind_ok, same_reading}
-use Rattle.mc_document.specs.declared.judge.verdict.Refusal.{Refusal}
-use Rattle.mc_document.specs.declared.judge.verdict.Refusal.TheVariants as refusal
-use Rattle.mc_document.specs.declared.judge.verdict.Verdict.{Verdict}
-use Rattle.mc_document.specs.declared.judge.verdict.Verdict.TheVariants.{Safe, Alarms, Refused}
-use Rattle.mc_document.specs.Judge.Verdicts.{GoesOn, IsCertificate, IsChain, IsReading, IsVerdict, SpellAll, Tells, said_of}
-use Rattle.mc_document.proofs.JudgeLemmas.Documents.{AreRead, Once, not_refused, same_document}
+use Rattle.mc_judge.specs.declared.judge.verdict.Refusal.{Refusal}
+use Rattle.mc_judge.specs.declared.judge.verdict.Refusal.TheVariants as refusal
+use Rattle.mc_judge.specs.declared.judge.verdict.Verdict.{Verdict}
+use Rattle.mc_judge.specs.declared.judge.verdict.Verdict.TheVariants.{Safe, Alarms, Refused}
+use Rattle.mc_judge.specs.Judge.Verdicts.{GoesOn, IsCertificate, IsChain, IsReading, IsVerdict, SpellAll, Tells, said_of}
+use Rattle.mc_judge.proofs.JudgeLemmas.Documents.{AreRead, Once, not_refused, same_document}
 
 -- ---- what is said of forms and stuck branches
 

@@ -7,11 +7,11 @@ use Rattle.mc_kernel.specs.Readings.{Reading, finished}
 use Rattle.mc_document.specs.Proof.Positions.{Stands}
 use Rattle.mc_kernel.specs.Reading.Documents.{IsJudge}
 use Rattle.mc_state.specs.declared.raw_state.RawState.{RawState}
-use Rattle.mc_document.specs.declared.judge.judge.Judge.{Judge}
-use Rattle.mc_document.specs.declared.judge.stage.Stage.{Stage}
-use Rattle.mc_document.specs.declared.judge.stage.Stage.TheVariants.{Unbegun, Open, Ended, Refused, Spent}
-use Rattle.mc_document.specs.Judge.Cuts.{IsCut}
-use Rattle.mc_document.specs.Judge.Verdicts.{IsReading, IsRefusal}
+use Rattle.mc_judge.specs.declared.judge.judge.Judge.{Judge}
+use Rattle.mc_judge.specs.declared.judge.stage.Stage.{Stage}
+use Rattle.mc_judge.specs.declared.judge.stage.Stage.TheVariants.{Unbegun, Open, Ended, Refused, Spent}
+use Rattle.mc_judge.specs.Judge.Cuts.{IsCut}
+use Rattle.mc_judge.specs.Judge.Verdicts.{IsReading, IsRefusal}
 
 -- after these lines a judge stands here; where memory was missing nothing is known
 abbrev pub IsAt : Knowledge → (RawState → Bool) → Flow → List Def → List (List ℕ) → Stage → Type 0

@@ -19,10 +19,10 @@ use Rattle.mc_kernel.specs.Certificates.{IsValidCertificate}
 use Rattle.mc_kernel.specs.Judges.{Knowledge}
 use Rattle.mc_kernel.specs.Readings.{Reading, finished, reading_line}
 use Rattle.mc_kernel.specs.Reading.Documents.{IsShortChain, reading_document}
-use Rattle.mc_document.specs.declared.judge.verdict.Refusal.{Refusal}
-use Rattle.mc_document.specs.declared.judge.verdict.Refusal.TheVariants as refusal
-use Rattle.mc_document.specs.declared.judge.verdict.Verdict.{Verdict}
-use Rattle.mc_document.specs.declared.judge.verdict.Verdict.TheVariants.{Safe, Alarms, Refused}
+use Rattle.mc_judge.specs.declared.judge.verdict.Refusal.{Refusal}
+use Rattle.mc_judge.specs.declared.judge.verdict.Refusal.TheVariants as refusal
+use Rattle.mc_judge.specs.declared.judge.verdict.Verdict.{Verdict}
+use Rattle.mc_judge.specs.declared.judge.verdict.Verdict.TheVariants.{Safe, Alarms, Refused}
 
 -- each of the texts spells the line in its place
 abbrev pub SpellAll : List (List ℕ) → List Line → Type 0

@@ -1,5 +1,5 @@
 // The names of lines.
-ghost use Rattle.mc_document.specs.Judge.Verdicts.{IsNamed};
+ghost use Rattle.mc_judge.specs.Judge.Verdicts.{IsNamed};
 
 use mc_lines::cert::{Line, rule_name};
 

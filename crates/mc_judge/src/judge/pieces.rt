@@ -1,7 +1,7 @@
 // Lines in pieces of a text.
 ghost use Rattle.std.specs.Prelude.{◌≡◌, ◌≢◌, ◌++◌, ◌∷◌, ◌≤◌, length, MatchOption};
 ghost use Rattle.mc_lines.specs.Cert.Lines.{line_len};
-ghost use Rattle.mc_document.specs.Judge.Cuts.{HasNoFeed};
+ghost use Rattle.mc_judge.specs.Judge.Cuts.{HasNoFeed};
 
 /// How many bytes stand before the first line feed, or in all.
 fn line_len(bytes: &[u8]) -> usize

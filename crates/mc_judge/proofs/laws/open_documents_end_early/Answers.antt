@@ -4,13 +4,13 @@ use Rattle.mc_flow.specs.declared.graph.Flow.{Flow}
 use Rattle.mc_kernel.specs.Judges.{Knowledge}
 use Rattle.mc_kernel.specs.Reading.Laws.{ReadIsNotRefused}
 use Rattle.mc_state.specs.declared.raw_state.RawState.{RawState}
-use Rattle.mc_document.specs.declared.judge.verdict.Refusal.TheVariants.{EndsEarly}
-use Rattle.mc_document.specs.declared.judge.verdict.Verdict.{Verdict}
-use Rattle.mc_document.specs.declared.judge.verdict.Verdict.TheVariants.{Refused}
-use Rattle.mc_document.specs.Judge.Laws.{OpenDocumentsEndEarly}
-use Rattle.mc_document.specs.Judge.Verdicts.{GoesOn, IsVerdict}
-use Rattle.mc_document.proofs.JudgeLemmas.Documents.{AreRead, Once, not_refused, nothing_refused, same_document}
-use Rattle.mc_document.proofs.laws.open_documents_end_early.Goals as goal
+use Rattle.mc_judge.specs.declared.judge.verdict.Refusal.TheVariants.{EndsEarly}
+use Rattle.mc_judge.specs.declared.judge.verdict.Verdict.{Verdict}
+use Rattle.mc_judge.specs.declared.judge.verdict.Verdict.TheVariants.{Refused}
+use Rattle.mc_judge.specs.Judge.Laws.{OpenDocumentsEndEarly}
+use Rattle.mc_judge.specs.Judge.Verdicts.{GoesOn, IsVerdict}
+use Rattle.mc_judge.proofs.JudgeLemmas.Documents.{AreRead, Once, not_refused, nothing_refused, same_document}
+use Rattle.mc_judge.proofs.laws.open_documents_end_early.Goals as goal
 
 ends_early : Once → AreRead → ReadIsNotRefused → OpenDocumentsEndEarly
 ends_early once are_read apart k well flow defs [] v (inl (r, reading, ended, said)) goes = absurd reading.spelled

@@ -1,6 +1,6 @@
 use Rattle.std.proofs.Common.{refl}
-use Rattle.mc_document.proofs.JudgeLemmas.Entries.{named}
-use Rattle.mc_document.proofs.judge.naming.name_of.Goals as goal
+use Rattle.mc_judge.proofs.JudgeLemmas.Entries.{named}
+use Rattle.mc_judge.proofs.judge.naming.name_of.Goals as goal
 
 pub returns-in-Header : goal.returns-in-Header
 returns-in-Header c = named c.args.line.now _ (rw c.in-Header.is refl)

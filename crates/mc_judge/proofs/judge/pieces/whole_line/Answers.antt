@@ -1,5 +1,5 @@
-use Rattle.mc_document.proofs.JudgeLemmas.Cutting.{all_has_none, whole}
-use Rattle.mc_document.proofs.judge.pieces.whole_line.Goals as goal
+use Rattle.mc_judge.proofs.JudgeLemmas.Cutting.{all_has_none, whole}
+use Rattle.mc_judge.proofs.judge.pieces.whole_line.Goals as goal
 
 pub returns-then-n-bytes : goal.returns-then-n-bytes
 returns-then-n-bytes c = whole c.args.bytes.now c.line_len-n.result c.line_len-n.ensures.value c.if-n-bytes.true

@@ -3,9 +3,9 @@ use Rattle.mc_lines.specs.declared.cert.line.Line.{Line}
 use Rattle.mc_lines.specs.declared.cert.line.Line.TheVariants.{Header}
 use Rattle.mc_lines.specs.Cert.Document.{Spells}
 use Rattle.mc_state.specs.declared.line.Version.TheVariants.{One}
-use Rattle.mc_document.proofs.JudgeLemmas.Documents.{refused_end}
-use Rattle.mc_document.proofs.JudgeLemmas.Standing.{begun_at}
-use Rattle.mc_document.proofs.judge.stage.begun.Goals as goal
+use Rattle.mc_judge.proofs.JudgeLemmas.Documents.{refused_end}
+use Rattle.mc_judge.proofs.JudgeLemmas.Standing.{begun_at}
+use Rattle.mc_judge.proofs.judge.stage.begun.Goals as goal
 
 pub returns-in-Some : goal.returns-in-Some
 returns-in-Some c = λ k well judge nothing.

@@ -1,5 +1,5 @@
-use Rattle.mc_document.proofs.JudgeLemmas.Documents.{goes_on}
-use Rattle.mc_document.proofs.judge.stage.gone_on.Goals as goal
+use Rattle.mc_judge.proofs.JudgeLemmas.Documents.{goes_on}
+use Rattle.mc_judge.proofs.judge.stage.gone_on.Goals as goal
 
 pub returns-in-Ok : goal.returns-in-Ok
 returns-in-Ok c = λ flow defs texts valid number k well judge at.

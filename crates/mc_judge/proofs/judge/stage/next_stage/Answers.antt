@@ -1,8 +1,8 @@
 use Rattle.std.proofs.Common.{◌≡◌, ℕ, List, ◌∷◌, ◌++◌, [], refl, sym, subst}
-use Rattle.mc_document.specs.declared.judge.stage.Stage.{Stage}
-use Rattle.mc_document.specs.Judge.Stages.{IsAt}
-use Rattle.mc_document.proofs.JudgeLemmas.Documents.{refusal_more, refused_end}
-use Rattle.mc_document.proofs.judge.stage.next_stage.Goals as goal
+use Rattle.mc_judge.specs.declared.judge.stage.Stage.{Stage}
+use Rattle.mc_judge.specs.Judge.Stages.{IsAt}
+use Rattle.mc_judge.proofs.JudgeLemmas.Documents.{refusal_more, refused_end}
+use Rattle.mc_judge.proofs.judge.stage.next_stage.Goals as goal
 
 pub returns-in-Unbegun-clause-leads : goal.returns-in-Unbegun-clause-leads
 returns-in-Unbegun-clause-leads c = λ texts number k well judge at.

@@ -2,8 +2,8 @@ use Rattle.std.proofs.Common.{subst}
 use Rattle.std.specs.Prelude.{Err}
 use Rattle.mc_lines.specs.declared.cert.fault.LineFault.{LineFault}
 use Rattle.mc_lines.specs.Cert.Document.{ReadsAs}
-use Rattle.mc_document.proofs.JudgeLemmas.Documents.{refused_end}
-use Rattle.mc_document.proofs.judge.stage.no_line.Goals as goal
+use Rattle.mc_judge.proofs.JudgeLemmas.Documents.{refused_end}
+use Rattle.mc_judge.proofs.judge.stage.no_line.Goals as goal
 
 pub returns-in-NotJson : goal.returns-in-NotJson
 returns-in-NotJson c = λ k well flow defs before bytes number goes reads.

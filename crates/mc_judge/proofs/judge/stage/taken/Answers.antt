@@ -1,7 +1,7 @@
 use Rattle.std.proofs.Common.{◌∷◌, ◌++◌, []}
 use Rattle.mc_document.specs.Proof.Positions.{IsApplied}
-use Rattle.mc_document.proofs.JudgeLemmas.Standing.{applied_more, not_applied}
-use Rattle.mc_document.proofs.judge.stage.taken.Goals as goal
+use Rattle.mc_judge.proofs.JudgeLemmas.Standing.{applied_more, not_applied}
+use Rattle.mc_judge.proofs.judge.stage.taken.Goals as goal
 
 pub returns-in-Ok : goal.returns-in-Ok
 returns-in-Ok c = λ flow defs texts bytes valid number one k well judge at.

@@ -1,8 +1,8 @@
 use Rattle.std.proofs.Common.{◌∙◌, ℕ, List, refl, subst}
-use Rattle.mc_document.specs.declared.judge.stage.Stage.{Stage}
-use Rattle.mc_document.specs.Judge.Stages.{Leads}
-use Rattle.mc_document.proofs.JudgeLemmas.Hearing.{line_heard, on_ok}
-use Rattle.mc_document.proofs.judge.judge.Judge.close.Goals as goal
+use Rattle.mc_judge.specs.declared.judge.stage.Stage.{Stage}
+use Rattle.mc_judge.specs.Judge.Stages.{Leads}
+use Rattle.mc_judge.proofs.JudgeLemmas.Hearing.{line_heard, on_ok}
+use Rattle.mc_judge.proofs.judge.judge.Judge.close.Goals as goal
 
 pub returns-clause-heard : goal.returns-clause-heard
 returns-clause-heard c = on_ok _ _ c.is_known.result c.is_known.ensures.ok (λ known.

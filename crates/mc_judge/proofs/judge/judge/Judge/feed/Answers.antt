@@ -1,5 +1,5 @@
-use Rattle.mc_document.proofs.JudgeLemmas.Hearing.{fed_line}
-use Rattle.mc_document.proofs.judge.judge.Judge.feed.Goals as goal
+use Rattle.mc_judge.proofs.JudgeLemmas.Hearing.{fed_line}
+use Rattle.mc_judge.proofs.judge.judge.Judge.feed.Goals as goal
 
 pub loop-line-preserved : goal.loop-line-preserved
 loop-line-preserved c = (

@@ -1,12 +1,12 @@
 use Rattle.std.proofs.lemmas.Result.{IfOk-weaker}
-use Rattle.mc_document.specs.declared.judge.stage.Stage.TheVariants.{Spent}
+use Rattle.mc_judge.specs.declared.judge.stage.Stage.TheVariants.{Spent}
 use Rattle.std.proofs.Common.{◌≡◌, ◌≢◌, ◌∙◌, ℕ, List, true, false, length, suc, sym, subst}
 use Rattle.std.specs.Prelude.{◌==◌}
 use Rattle.mc_lines.specs.Cert.Lines.{lines_of}
-use Rattle.mc_document.specs.Judge.Stages.{IsAt, Leads}
-use Rattle.mc_document.proofs.JudgeLemmas.Hearing.{finished_closed, finished_open, no_bytes, some_bytes}
-use Rattle.mc_document.proofs.JudgeLemmas.Telling.{Laws, if_tells}
-use Rattle.mc_document.proofs.judge.judge.Judge.finish.Goals as goal
+use Rattle.mc_judge.specs.Judge.Stages.{IsAt, Leads}
+use Rattle.mc_judge.proofs.JudgeLemmas.Hearing.{finished_closed, finished_open, no_bytes, some_bytes}
+use Rattle.mc_judge.proofs.JudgeLemmas.Telling.{Laws, if_tells}
+use Rattle.mc_judge.proofs.judge.judge.Judge.finish.Goals as goal
 
 pub returns-then-is_empty-clause-verdict : goal.returns-then-is_empty-clause-verdict
 returns-then-is_empty-clause-verdict c = λ k well text judge heard.

@@ -1,7 +1,7 @@
 use Rattle.std.proofs.Common.{◌≡◌, ◌∙◌, refl, sym, false}
-use Rattle.mc_document.specs.Judge.Stages.{needs_more}
-use Rattle.mc_document.proofs.JudgeLemmas.Hearing.{more_heard, quiet_heard}
-use Rattle.mc_document.proofs.judge.judge.Judge.hold.Goals as goal
+use Rattle.mc_judge.specs.Judge.Stages.{needs_more}
+use Rattle.mc_judge.proofs.JudgeLemmas.Hearing.{more_heard, quiet_heard}
+use Rattle.mc_judge.proofs.judge.judge.Judge.hold.Goals as goal
 
 pub returns-then-not-branch-clause-heard : goal.returns-then-not-branch-clause-heard
 returns-then-not-branch-clause-heard c =

@@ -1,8 +1,8 @@
 use Rattle.std.proofs.Common.{◌∙◌, sym, subst}
-use Rattle.mc_document.specs.declared.judge.stage.Stage.{Stage}
-use Rattle.mc_document.specs.Judge.Stages.{IsAt}
-use Rattle.mc_document.proofs.JudgeLemmas.Hearing.{Refusing, at_texts, never_refused}
-use Rattle.mc_document.proofs.judge.judge.Judge.refused.Goals as goal
+use Rattle.mc_judge.specs.declared.judge.stage.Stage.{Stage}
+use Rattle.mc_judge.specs.Judge.Stages.{IsAt}
+use Rattle.mc_judge.proofs.JudgeLemmas.Hearing.{Refusing, at_texts, never_refused}
+use Rattle.mc_judge.proofs.judge.judge.Judge.refused.Goals as goal
 
 pub returns-in-Refused-clause-refused : goal.returns-in-Refused-clause-refused
 returns-in-Refused-clause-refused c = λ k well text texts rest judge heard cut.
