@@ -8,7 +8,12 @@ pub mod ReadPasses
 pub mod ReadFront
 pub mod ReadWhole
 pub mod LinesAgree
+pub mod JoinsAgree
 pub mod ReadAgree
+pub mod ShortReadings
+pub mod TidyOr
+pub mod SameOr
+pub mod Lores
 pub mod Assertion
 pub mod Places
 pub mod Judging

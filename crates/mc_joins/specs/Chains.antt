@@ -5,4 +5,5 @@ pub mod Judges
 pub mod Laws
 pub mod Read
 pub mod ReadLaws
+pub mod Short
 pub mod Examples

@@ -3,6 +3,7 @@
 
 mod examples;
 mod laws;
+mod lores;
 mod reading;
 
 pub use examples::{
@@ -12,6 +13,7 @@ pub use examples::{
 pub use laws::{
     changes_are_judged, final_chains_find_faults, joint_atoms_are_there, numbering_makes_well,
 };
+pub use lores::lores_are_there;
 pub use reading::{
     chain_judges_agree, legal_chains_are_read, lines_are_read, refusals_are_one,
     short_chains_are_legal,

@@ -5,6 +5,8 @@ use Rattle.mc_flow.specs.declared.graph.Flow.{Flow}
 use Rattle.mc_state.specs.Known.{Test}
 use Rattle.mc_state.specs.declared.line.JoinStep.{JoinStep}
 use Rattle.mc_state.specs.State.{State}
+use Rattle.mc_state.specs.Laws.{UnknownIsBounded}
+use Rattle.mc_kernel.specs.Reading.Laws.{LinesMakeWellMade}
 use Rattle.mc_joins.specs.Same.Laws.{AnewIsBounded}
 use Rattle.mc_joins.specs.Same.Same.{anew}
 use Rattle.mc_joins.specs.Laws.{JoinsMakeWell}
@@ -12,6 +14,13 @@ use Rattle.mc_joins.specs.Whole.{Joins}
 use Rattle.mc_joins.specs.Chains.Chains.{KnowsStates}
 use Rattle.mc_joins.specs.Chains.Laws.{Made}
 use Rattle.mc_joins.proofs.ChainsLemmas.AnewMade.{anew_made}
+
+-- what is used of states that lines and joins make
+pub record MakingLaws : Type 0 where
+  pub made : LinesMakeWellMade
+  pub unknown : UnknownIsBounded
+  pub anew_bounded : AnewIsBounded
+  pub joins : JoinsMakeWell
 
 pub record NewStatesAreMade (know : State → Test) (flow : Flow) (defs : List Def) : Type 0 where
   pub anew_made : (s : State) → Made flow defs s → Made flow defs (anew s)

@@ -1,6 +1,6 @@
 -- Two right lores read each chain alike.
 use Rattle.std.proofs.Common.{◌≡◌, ℕ, List, [], ◌∷◌, ◌++◌, Bool, true, false, not, Option, Some, None, length, slice_get, refl, ap, sym, subst, ◌∙◌}
-use Rattle.std.specs.Prelude.{◌&&◌, ◌||◌, ◌==◌, Ok, is_none, is_some, option_and_then, if◌then◌else◌}
+use Rattle.std.specs.Prelude.{◌&&◌, ◌||◌, ◌==◌, Ok}
 use Rattle.std.specs.List.{AllByRecursion, list_all}
 use Rattle.mc_lines.specs.declared.cert.line.Line.{Line}
 use Rattle.mc_lines.specs.declared.cert.line.Line.TheVariants as line
@@ -20,9 +20,9 @@ use Rattle.mc_kernel.specs.Reading.Documents.{IsMade}
 use Rattle.mc_kernel.specs.Readings.{first_branch, marked}
 use Rattle.mc_kernel.proofs.ReadingLemmas.Kept.{first_is}
 use Rattle.mc_joins.specs.Joinings.{Joining, begun, next_pair}
-use Rattle.mc_joins.specs.Laws.{JoinsAreDetermined, PrefixesAreDetermined, StepsAreDetermined, StepsKeepMade, StuckIsEvery}
+use Rattle.mc_joins.specs.Laws.{JoinsAreDetermined}
 use Rattle.mc_joins.specs.Parts.{Basis}
-use Rattle.mc_joins.specs.Steps.{after_step, after_steps, is_stuck}
+use Rattle.mc_joins.specs.Steps.{after_steps}
 use Rattle.mc_joins.specs.Whole.{Joins}
 use Rattle.mc_joins.specs.Chains.Chains.{changes, over}
 use Rattle.mc_joins.specs.Chains.Judges.{Lore, Outcome, Reading, basis, begun_chain, gets_stuck, given_by, heading, is_passing, joining_state}
@@ -32,19 +32,12 @@ use Rattle.mc_joins.specs.Chains.Opened.{with_state_for}
 use Rattle.mc_joins.specs.Chains.Read.{IsKept}
 use Rattle.mc_joins.specs.Chains.ReadLaws.{ChainJudgesAgree}
 use Rattle.mc_joins.proofs.ChainsLemmas.InOrder.{in_order_same}
+use Rattle.mc_joins.proofs.ChainsLemmas.JoinsAgree.{StepLaws, and_same, prefix_same, tries_same, whole_same}
 use Rattle.mc_joins.proofs.ChainsLemmas.Judging.{one_of, whole_from}
 use Rattle.mc_joins.proofs.ChainsLemmas.LinesAgree.{lines_agree, one_knows, one_test}
 use Rattle.mc_joins.proofs.ChainsLemmas.NewStates.{NewStatesAreMade, new_states}
 use Rattle.mc_joins.proofs.ChainsLemmas.Places.{and_both}
 use Rattle.mc_joins.proofs.ChainsLemmas.ReadLines.{Laws, begun_chain_is_kept, line_kept, states_good}
-
--- what is used of steps of joins
-pub record StepLaws : Type 0 where
-  pub step : StepsAreDetermined
-  pub keep : StepsKeepMade
-  pub prefixes : PrefixesAreDetermined
-  pub stuck : StuckIsEvery
-  pub joins : JoinsAreDetermined
 
 -- ---- premises
 
@@ -62,13 +55,10 @@ have_same n (Some w) (Some v) f h e same = let is : w ≡ v = cc e in same w ref
 have_same n None (Some v) f h e same = absurd (cc e)
 have_same n (Some w) None f h e same = absurd (cc e)
 
-and_same : (a b c d : Bool) → a ≡ b → c ≡ d → (a && c) ≡ (b && d)
-and_same a b c d e f = cc (e, f)
-
-module _ (steps : StepLaws) (laws : Laws) (k other : Lore) (flow : Flow) (defs : List Def) (right : IsRight k flow defs)
+module _ (steps : StepLaws) (joins : JoinsAreDetermined) (laws : Laws) (k other : Lore) (flow : Flow) (defs : List Def) (right : IsRight k flow defs)
     (right' : IsRight other flow defs) where
   new : NewStatesAreMade k.lines.know flow defs
-  new = new_states laws.anew_bounded laws.joins k.lines.know flow defs right.knows
+  new = new_states laws.making.anew_bounded laws.making.joins k.lines.know flow defs right.knows
 
   knows : (s : State) → Made flow defs s → k.lines.know s ≡ other.lines.know s
   knows s made = one_knows (k.lines.know s) (other.lines.know s) s (right.knows s made) (right'.knows s made)
@@ -89,69 +79,11 @@ module _ (steps : StepLaws) (laws : Laws) (k other : Lore) (flow : Flow) (defs :
   formed_same raw =
       one_test (k.formed raw) (other.formed raw) (λ e. (right'.formed raw).1 ((right.formed raw).0 e)) (λ e. (right.formed raw).1 ((right'.formed raw).0 e))
 
-  -- ---- joins
-
   abbrev w : Basis
   w = basis k defs
 
   abbrev v : Basis
   v = basis other defs
-
-  prefix_same : (left right : State) (list : List JoinStep) → Made flow defs left → Made flow defs right
-      → after_steps w (begun left right) list ≡ after_steps v (begun left right) list
-  prefix_same l r list l_made r_made =
-      steps.prefixes defs flow.vars flow.structs.list k.lines.know other.lines.know l r list right.knows right'.knows l_made r_made
-
-  -- both states of a join stay well made
-  abbrev BothMade : Joining → Type 0
-  BothMade j = Made flow defs j.left.state × Made flow defs j.right.state
-
-  steps_made : (list : List JoinStep) (j last : Joining) → BothMade j → after_steps w j list ≡ Some last → BothMade last
-  steps_made [] j last made e = let is : j ≡ last = cc e in subst BothMade is made
-  steps_made (step ∷ list) j last made e =
-      steps_from (after_step w j step) list last
-      (λ next is. steps.keep defs flow.vars flow.structs.list k.lines.know j step next right.knows made.0 made.1 is)
-      (λ next both e'. steps_made list next last both e') e
-    where
-      steps_from : (o : Option Joining) (list : List JoinStep) (last : Joining) → ((next : Joining) → o ≡ Some next → BothMade next)
-          → ((next : Joining) → BothMade next → after_steps w next list ≡ Some last → BothMade last)
-          → option_and_then (λ next. after_steps w next list) o ≡ Some last → BothMade last
-      steps_from None list last one rest e = absurd (cc e)
-      steps_from (Some next) list last one rest e = rest next (one next refl) e
-
-  stuck_same : (j : Joining) → BothMade j → is_stuck w j ≡ is_stuck v j
-  stuck_same j made =
-      one_test (is_stuck w j) (is_stuck v j)
-      (λ e. let s = (steps.stuck w j).0 e in (steps.stuck v j).1 (s.0, λ step. sym (same step) ∙ s.1 step))
-      (λ e. let s = (steps.stuck v j).0 e in (steps.stuck w j).1 (s.0, λ step. same step ∙ s.1 step))
-    where
-      same : (step : JoinStep) → after_step w j step ≡ after_step v j step
-      same step = steps.step defs flow.vars flow.structs.list k.lines.know other.lines.know j step right.knows right'.knows made.0 made.1
-
-  gets_same : (own left : State) (list : List JoinStep) → Made flow defs left → Made flow defs own → gets_stuck w own left list ≡ gets_stuck v own left list
-  gets_same own left list l_made o_made =
-      at (after_steps w (begun left own) list) refl
-      ∙ ap (λ (o : Option Joining). is_some (option_and_then (λ last. if is_stuck v last then Some last else None) o)) (prefix_same left own list l_made o_made)
-    where
-      at : (o : Option Joining) → after_steps w (begun left own) list ≡ o
-          → is_some (option_and_then (λ last. if is_stuck w last then Some last else None) o) ≡ is_some
-          (option_and_then (λ last. if is_stuck v last then Some last else None) o)
-      at None is = refl
-      at (Some last) is =
-          ap (λ (b : Bool). is_some (if b then Some last else None)) (stuck_same last (steps_made list (begun left own) last (l_made, o_made) is))
-
-  tries_same : (own : State) (lefts : List State) (tries : List (List JoinStep)) → Made flow defs own → AllByRecursion (Made flow defs) lefts
-      → all_both (gets_stuck w own) lefts tries ≡ all_both (gets_stuck v own) lefts tries
-  tries_same own [] [] o_made made = refl
-  tries_same own [] (t ∷ tries) o_made made = refl
-  tries_same own (s ∷ lefts) [] o_made made = refl
-  tries_same own (s ∷ lefts) (t ∷ tries) o_made made =
-      and_same (gets_stuck w own s t) (gets_stuck v own s t) (all_both (gets_stuck w own) lefts tries) (all_both (gets_stuck v own) lefts tries)
-      (gets_same own s t made.0 o_made) (tries_same own lefts tries o_made made.1)
-
-  whole_same : (left own : State) (list : List JoinStep) → Made flow defs left → Made flow defs own → whole_join w left own list ≡ whole_join v left own list
-  whole_same left own list l_made o_made =
-      ap (option_and_then (λ (last : Joining). if is_none (next_pair last) then Some last else None)) (prefix_same left own list l_made o_made)
 
   -- a whole join of two tidy states gives one state
   module _ (round : ℕ) (left own : State) (list : List JoinStep) (last : Joining) (l_made : Made flow defs left) (o_made : Made flow defs own)
@@ -182,14 +114,14 @@ module _ (steps : StepLaws) (laws : Laws) (k other : Lore) (flow : Flow) (defs :
             right_made = o_made;
             left_tidy = l_tidy;
             right_tidy = o_tidy;
-            reached = sym (prefix_same left own list l_made o_made)
+            reached = sym (prefix_same steps flow defs k.lines.know other.lines.know right.knows right'.knows left own list l_made o_made)
                 ∙ ends.0;
             done = ends.1;
           });
     }
 
     given_same : given_by k round left own last ≡ given_by other round left own last
-    given_same = steps.joins w round flow.thresholds left own list (given_by k round left own last) (given_by other round left own last) one_join other_join
+    given_same = joins w round flow.thresholds left own list (given_by k round left own last) (given_by other round left own last) one_join other_join
 
     given_made : Made flow defs (given_by k round left own last)
     given_made = new.join_made round left own list (given_by k round left own last) one_join l_made o_made
@@ -216,7 +148,7 @@ module _ (steps : StepLaws) (laws : Laws) (k other : Lore) (flow : Flow) (defs :
         (and_same (k.tidy b.state) (other.tidy b.state) (list_all k.tidy lefts) (list_all other.tidy lefts) (tidy_same b.state made)
         (all_tidy lefts lefts_made)) (λ e4.
         need_same 5 (all_both (gets_stuck w b.state) lefts tries) (all_both (gets_stuck v b.state) lefts tries) _ _
-        (tries_same b.state lefts tries made lefts_made) (λ e5. refl)))))
+        (tries_same steps flow defs k.lines.know other.lines.know right.knows right'.knows b.state lefts tries made lefts_made) (λ e5. refl)))))
 
     joining_same : (j : ℕ) (list : List JoinStep) → joining_state k defs round g j list b ≡ joining_state other defs round g j list b
     joining_same j list =
@@ -229,7 +161,8 @@ module _ (steps : StepLaws) (laws : Laws) (k other : Lore) (flow : Flow) (defs :
         let tidy = and_both (k.tidy b.state) (k.tidy left) e4 in
         let o_tidy = (right.tidy b.state made).0 tidy.0 in
         let l_tidy = (right.tidy left l_made).0 tidy.1 in
-        have_same 5 (whole_join w left b.state list) (whole_join v left b.state list) _ _ (whole_same left b.state list l_made made) (λ last whole.
+        have_same 5 (whole_join w left b.state list) (whole_join v left b.state list) _ _
+        (whole_same steps flow defs k.lines.know other.lines.know right.knows right'.knows left b.state list l_made made) (λ last whole.
         need_same 6 (not (k.same (given_by k round left b.state last) left)) (not (other.same (given_by other round left b.state last) left)) _ _
         (ap not (test_same round left b.state list last l_made made l_tidy o_tidy whole)) (λ e6.
         ap (λ (r : State). let heads : Judged (List Head) = Ok (with_state_for b.point j r g.heads) in heads)
@@ -262,7 +195,7 @@ module _ (steps : StepLaws) (laws : Laws) (k other : Lore) (flow : Flow) (defs :
   line_same line.End r kept = refl
   line_same l r kept = rule_same l r kept
 
-pub chain_judges_agree : StepLaws → Laws → ChainJudgesAgree
-chain_judges_agree steps laws k other flow defs lines valid right right' =
-    in_order_same (reading_line k flow defs) (reading_line other flow defs) (IsKept flow defs) (line_same steps laws k other flow defs right right')
+pub chain_judges_agree : StepLaws → JoinsAreDetermined → Laws → ChainJudgesAgree
+chain_judges_agree steps joins laws k other flow defs lines valid right right' =
+    in_order_same (reading_line k flow defs) (reading_line other flow defs) (IsKept flow defs) (line_same steps joins laws k other flow defs right right')
     (λ l r next kept e. line_kept laws k flow defs right valid l r next kept e) 2 lines begun_chain (begun_chain_is_kept flow defs)

@@ -40,12 +40,12 @@ abbrev pub opened_at : Flow → List PointId → List WrittenHead → Reading
 opened_at flow cuts written = passing_at cuts (states_of written) 1 (roots flow (states_of written)) [] false
 
 -- the states of heads stand where the heads do
-same_place : (written : List WrittenHead) (p : PointId) → stands_behind (states_of written) p ≡ stands_after written p
+pub same_place : (written : List WrittenHead) (p : PointId) → stands_behind (states_of written) p ≡ stands_after written p
 same_place [] p = refl
 same_place (h ∷ []) p = refl
 same_place (h ∷ i ∷ written) p = same_place (i ∷ written) p
 
-states_end : (written : List WrittenHead) (h : WrittenHead) → states_of written ++ (h.0, state_of h.1) ∷ [] ≡ states_of (written ++ h ∷ [])
+pub states_end : (written : List WrittenHead) (h : WrittenHead) → states_of written ++ (h.0, state_of h.1) ∷ [] ≡ states_of (written ++ h ∷ [])
 states_end [] h = refl
 states_end (i ∷ written) h = ap (λ (hs : List Head). (i.0, state_of i.1) ∷ hs) (states_end written h)
 

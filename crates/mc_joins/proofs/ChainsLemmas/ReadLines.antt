@@ -8,7 +8,6 @@ use Rattle.mc_lines.specs.declared.cert.line.Line.TheVariants as line
 use Rattle.mc_flow.specs.declared.defs.rules.Def.{Def}
 use Rattle.mc_flow.specs.declared.graph.Flow.{Flow}
 use Rattle.mc_flow.specs.Valid.{IsValid}
-use Rattle.mc_state.specs.Laws.{UnknownIsBounded}
 use Rattle.mc_state.specs.Premises.{Judged, then_give}
 use Rattle.mc_state.proofs.Numbered.{need_ok, need_yes, have_ok, have_yes, then_ok}
 use Rattle.mc_state.proofs.Tests.{and_both}
@@ -19,12 +18,9 @@ use Rattle.mc_kernel.specs.Instances.{IsInstance}
 use Rattle.mc_kernel.specs.JudgedLaws.{LinesAreJudged}
 use Rattle.mc_kernel.specs.Judges.{is_cut, judged_line}
 use Rattle.mc_kernel.specs.Reading.Documents.{IsMade}
-use Rattle.mc_kernel.specs.Reading.Laws.{LinesMakeWellMade}
 use Rattle.mc_kernel.specs.Readings.{comes_after, first_branch, has_no_branch, is_skip, marked}
 use Rattle.mc_kernel.proofs.ReadingLemmas.Kept.{first_is}
 use Rattle.mc_kernel.proofs.ReadingLemmas.Lists.{all_end, all_join, cut_from}
-use Rattle.mc_joins.specs.Laws.{JoinsMakeWell}
-use Rattle.mc_joins.specs.Same.Laws.{AnewIsBounded}
 use Rattle.mc_joins.specs.Chains.Chains.{IsPassLine, changes, over}
 use Rattle.mc_joins.specs.Chains.Judges.{Lore, Outcome, Reading, Stage, basis, cutting, finished, heading, passing, is_cutting, is_passing}
 use Rattle.mc_joins.specs.Chains.Judges.{joining_state, may_head, may_pass, opening_state, passing_line, reading_line, reading_rule, stands_behind}
@@ -33,15 +29,12 @@ use Rattle.mc_joins.specs.Chains.Opened.{JoinsState, OpensState}
 use Rattle.mc_joins.specs.Chains.Read.{IsKept, IsReadAt}
 use Rattle.mc_joins.specs.Chains.ReadLaws.{BegunChainIsKept, LinesKeepChains, PassLinesAreJudged, PassLinesAreRead}
 use Rattle.mc_joins.proofs.ChainsLemmas.Final.{all_at, line_keeps, roots_made}
-use Rattle.mc_joins.proofs.ChainsLemmas.NewStates.{NewStatesAreMade, new_states}
+use Rattle.mc_joins.proofs.ChainsLemmas.NewStates.{MakingLaws, NewStatesAreMade, new_states}
 
--- what is used of lines, of new states and of joins
+-- what is used of lines
 pub record Laws : Type 0 where
+  pub making : MakingLaws
   pub judged : LinesAreJudged
-  pub made : LinesMakeWellMade
-  pub unknown : UnknownIsBounded
-  pub anew_bounded : AnewIsBounded
-  pub joins : JoinsMakeWell
   pub opening : OpeningIsJudged
   pub joining : JoiningIsJudged
 
@@ -174,12 +167,13 @@ module _ (laws : Laws) (k : Lore) (flow : Flow) (defs : List Def) (right : IsRig
 
   module _ (valid : IsValid flow defs) where
     new : NewStatesAreMade k.lines.know flow defs
-    new = new_states laws.anew_bounded laws.joins k.lines.know flow defs right.knows
+    new = new_states laws.making.anew_bounded laws.making.joins k.lines.know flow defs right.knows
 
     read_kept : (l : Line) (r next : Reading) → IsKept flow defs r → IsReadAt flow (basis k defs) l r next → IsKept flow defs next
     read_kept l r next kept i =
         let made = subst (AllByRecursion (IsMade flow defs)) i.open_are kept.branches in
-        let keeps = line_keeps laws.made laws.unknown flow defs valid k.lines.know new r.cuts r.round r.heads i.heads l i.first i.next kept.heads made.0
+        let keeps = line_keeps laws.making.made laws.making.unknown flow defs valid k.lines.know new r.cuts r.round r.heads i.heads l i.first i.next
+        kept.heads made.0
         i.instance in
         subst (IsKept flow defs) (sym i.gives) (record { heads = keeps.1; branches = all_join (IsMade flow defs) i.next i.others keeps.0 made.1 })
 
@@ -205,7 +199,7 @@ module _ (laws : Laws) (k : Lore) (flow : Flow) (defs : List Def) (right : IsRig
         let is : record r { stage = passing; round = suc r.round; branches = roots flow r.heads; stuck = []; changed = false } ≡ next = cc three.1 in
         subst (IsKept flow defs) is (record {
           heads = kept.heads;
-          branches = roots_made laws.made laws.unknown flow defs valid k.lines.know new r.cuts r.heads
+          branches = roots_made laws.making.made laws.making.unknown flow defs valid k.lines.know new r.cuts r.heads
               kept.heads;
         })
     line_kept line.End r next kept e =

@@ -56,11 +56,12 @@ module _ (laws : Laws) (k : Lore) (flow : Flow) (defs : List Def) (right : IsRig
   Good h = Contains cuts h.0 × Made flow defs h.1
 
   new : NewStatesAreMade k.lines.know flow defs
-  new = new_states laws.anew_bounded laws.joins k.lines.know flow defs right.knows
+  new = new_states laws.making.anew_bounded laws.making.joins k.lines.know flow defs right.knows
 
   -- a pass opens kept branches
   pub opened_kept : (heads : List Head) (round : ℕ) → AllByRecursion Good heads → IsKept flow defs (passing_at cuts heads round (roots flow heads) [] false)
-  opened_kept heads round good = record { heads = good; branches = roots_made laws.made laws.unknown flow defs valid k.lines.know new cuts heads good }
+  opened_kept heads round good =
+      record { heads = good; branches = roots_made laws.making.made laws.making.unknown flow defs valid k.lines.know new cuts heads good }
 
   -- passes, numbered from after a number on, after which the chain has ended
   pub record PassesOf (round : ℕ) (passes : List (List Line)) (heads : List Head) (last : Reading) : Type 0 where
@@ -295,7 +296,7 @@ module _ (laws : Laws) (k : Lore) (flow : Flow) (defs : List Def) (right : IsRig
       let number : suc round + length (more ∷ passes) ≡ round + length (rules ∷ more ∷ passes) = omega arith in
       let on = rules_to n rules (spelled_passes (more ∷ passes) ++ line.End ∷ []) heads mid (suc round) (roots flow heads) own [] false
       (opened_kept heads (suc round) good) pass in
-      let good' = pass_keeps laws.made laws.unknown flow defs valid k.lines.know new cuts (suc round) rules (roots flow heads) own heads mid good
+      let good' = pass_keeps laws.making.made laws.making.unknown flow defs valid k.lines.know new cuts (suc round) rules (roots flow heads) own heads mid good
       (opened_kept heads (suc round) good).branches pass in
       on.1
       ∙ next_pass on.0 ((more ++ spelled_passes passes) ++ line.End ∷ []) mid (suc round) own (changes_some rules) changed

@@ -13,7 +13,7 @@ use Rattle.mc_state.specs.declared.line.Form.TheVariants.{Chain}
 use Rattle.mc_state.specs.declared.line.Version.TheVariants.{One}
 use Rattle.mc_kernel.specs.Branches.{Path, Setting, states_at}
 use Rattle.mc_kernel.specs.Reading.Documents.{IsMade, IsShortChain, is_rule}
-use Rattle.mc_joins.specs.Chains.Chains.{HasAlarms, HasNoAlarm, IsLegalChain, IsPassLine, IsUnfinished}
+use Rattle.mc_joins.specs.Chains.Chains.{HasAlarms, HasNoAlarm, IsLegalChain, IsPassLine, IsUnfinished, KnowsStates}
 use Rattle.mc_joins.specs.Chains.InOrder.{behind}
 use Rattle.mc_joins.specs.Chains.Judges.{Lore, Reading, alarms, basis, begun_chain, ends_early, no_alarm, passing_line, reading_chain, reading_line, unfinished}
 use Rattle.mc_joins.specs.Chains.Laws.{IsRight, Made}
@@ -138,3 +138,15 @@ ChainJudgesAgree =
     (k other : Lore) (flow : Flow) (defs : List Def) (lines : List Line)
     → IsValid flow defs → IsRight k flow defs → IsRight other flow defs
     → reading_chain k flow defs lines ≡ reading_chain other flow defs lines
+
+-- what is entailed in a state is one, whatever tells it: so a legal chain is one by all tests that tell it, with the same
+-- states of cuts, the same stuck branches and the same changes
+abbrev pub LegalChainsAreOne : Type 0
+LegalChainsAreOne =
+    (know other : State → Test) (flow : Flow) (defs : List Def) (lines : List Line)
+    → IsValid flow defs → KnowsStates flow defs know → KnowsStates flow defs other
+    → (c : IsLegalChain know flow defs lines) → (d : IsLegalChain other flow defs lines) × (at_end d ≡ at_end c)
+
+-- of each valid flow graph there is a right lore
+abbrev pub LoresAreThere : Type 0
+LoresAreThere = (flow : Flow) (defs : List Def) → IsValid flow defs → (k : Lore) × IsRight k flow defs

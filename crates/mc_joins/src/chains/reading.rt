@@ -2,7 +2,8 @@
 ghost use Rattle.mc_joins.specs.Chains.ReadLaws.{PassLinesAreJudged, BegunChainIsKept, LinesKeepChains, PassLinesAreRead};
 ghost use Rattle.mc_joins.specs.Chains.ReadLaws.{LegalChainsAreRead, AlarmsAreSaid, NoAlarmIsSaid, UnfinishedIsSaid, OpenIsSaid};
 ghost use Rattle.mc_joins.specs.Chains.ReadLaws.{ShortChainsAreLegal, LinesAreAdded, RefusalsAreRead, RefusalIsOne};
-ghost use Rattle.mc_joins.specs.Chains.ReadLaws.{ChainsAreDecided, ReadIsNotRefused, RefusedIsNeverLegal, ChainJudgesAgree};
+ghost use Rattle.mc_joins.specs.Chains.ReadLaws.{ChainsAreDecided, ReadIsNotRefused, RefusedIsNeverLegal, ChainJudgesAgree, LegalChainsAreOne};
+ghost use Rattle.mc_joins.specs.Chains.Short.{ShortReadingsAgree};
 
 use crate::chains::laws::changes_are_judged;
 use crate::same::numbering_is_sound;
@@ -11,9 +12,11 @@ use mc_kernel::lines_are_judged;
 use mc_kernel::reading::lines_make_well_made;
 use mc_state::numbers_stay_bounded;
 
-/// A final legal chain of one pass is what a chain of one pass is where no line changes the states of cuts.
+/// A final legal chain of one pass is what a chain of one pass is where no line changes the states of cuts. And lines
+/// without one that does are read as there.
 pub fn short_chains_are_legal()
-    ensures { ShortChainsAreLegal }
+    ensures legal { ShortChainsAreLegal }
+    ensures read { ShortReadingsAgree }
 {}
 
 /// A chain goes on line by line. It has ended, is open, or has one line that is refused, with one premise.
@@ -62,9 +65,10 @@ pub fn legal_chains_are_read()
 }
 
 /// What judges rightly judges alike: which line of a chain is refused, and its premise, are the chain's own, and so is
-/// what it becomes.
+/// what it becomes. And a legal chain is one by whatever tells what is entailed.
 pub fn chain_judges_agree()
-    ensures { ChainJudgesAgree }
+    ensures judges { ChainJudgesAgree }
+    ensures legal { LegalChainsAreOne }
 {
     changes_are_judged();
     joins_are_determined();
