@@ -28,6 +28,12 @@ StuckIsEvery =
 abbrev pub KnowsMade : List Def → List VarInfo → List StructInfo → (State → Test) → Type 0
 KnowsMade defs vars structs know = (s : State) → IsWellMade defs vars structs s → Tells (know s) s
 
+-- there are such tests
+abbrev pub MadeAreTold : Type 0
+MadeAreTold =
+    (defs : List Def) (vars : List VarInfo) (structs : List StructInfo)
+    → (know : State → Test) × KnowsMade defs vars structs know
+
 -- a step of a join of well-made states depends on what is entailed in states and on nothing else: there is one join
 -- that it gives, or it does not apply, by whatever tests tell that
 abbrev pub StepsAreDetermined : Type 0

@@ -1,6 +1,6 @@
 // What holds of the steps of joins. Each law is what a function with no body ensures.
 ghost use Rattle.mc_joins.specs.Laws.{StuckIsEvery, JoinsAreDetermined, JoinsAreSound, JoinsAreThere};
-ghost use Rattle.mc_joins.specs.Laws.{JoinsMakeWell, JoinsNameAll, StepsAreDetermined, StepsKeepMade, PrefixesAreDetermined};
+ghost use Rattle.mc_joins.specs.Laws.{JoinsMakeWell, JoinsNameAll, MadeAreTold, StepsAreDetermined, StepsKeepMade, PrefixesAreDetermined};
 
 use crate::same::derived_is_renamed;
 use mc_cover::firsts_are_covers;
@@ -15,6 +15,14 @@ use mc_state::{
 pub fn stuck_is_every()
     ensures { StuckIsEvery }
 {}
+
+/// There are tests that tell what is entailed in well-made states: so what is said of all such tests is never empty.
+pub fn made_are_told()
+    ensures { MadeAreTold }
+{
+    mc_pure::each_is_decided();
+    mc_rules_logic::listed::lists_are_there();
+}
 
 /// A step of a join of well-made states gives one join at most, whatever tells what is entailed in states, and leaves
 /// both states well made; so with lists of steps.

@@ -20,5 +20,5 @@ pub use examples::{
 };
 pub use laws::{
     joins_are_determined, joins_are_sound, joins_are_there, joins_make_well, joins_name_all,
-    steps_are_determined, stuck_is_every,
+    made_are_told, steps_are_determined, stuck_is_every,
 };

@@ -1,3 +1,4 @@
 pub mod Finding
 pub mod NamedLemmas
 pub mod Pairing
+pub mod ChangesLemmas

@@ -8,12 +8,11 @@ use Rattle.mc_flow.specs.declared.defs.shapes.StructInfo.{StructInfo}
 use Rattle.mc_flow.specs.declared.graph.Flow.{Flow}
 use Rattle.mc_state.specs.declared.line.JoinStep.{JoinStep}
 use Rattle.mc_state.specs.Fits.{IsWellMade}
-use Rattle.mc_state.specs.Known.{Test, is_false}
+use Rattle.mc_state.specs.Known.{is_false}
 use Rattle.mc_state.specs.Lists.{all_both}
 use Rattle.mc_state.specs.Premises.{Judged, need, have, then_give}
 use Rattle.mc_state.specs.State.{State}
 use Rattle.mc_kernel.specs.Branches.{Path, Setting, states_at}
-use Rattle.mc_joins.specs.Laws.{KnowsMade}
 use Rattle.mc_joins.specs.Parts.{Basis}
 use Rattle.mc_joins.specs.Same.Same.{anew}
 use Rattle.mc_joins.specs.Chains.Judges.{Lore, basis, may_change, whole_join, gets_stuck, given_by, opening_state, joining_state}
@@ -26,12 +25,10 @@ use Rattle.mc_replay.specs.Named.{TellsFrom}
 abbrev pub states_held : List (Bor State) → List State
 states_held states = map (λ s. s.now) states
 
--- some tests tell what is entailed in well-made states, of which these are
-pub record AreTold (defs : List Def) (states : List State) : Type 0 where
+-- the states are well made for these definitions and for some variables and structs
+pub record AreMadeFor (defs : List Def) (states : List State) : Type 0 where
   pub vars : List VarInfo
   pub structs : List StructInfo
-  pub know : State → Test
-  pub knows : KnowsMade defs vars structs know
   pub made : AllByRecursion (IsWellMade defs vars structs) states
 
 -- it holds of all tests that tell what is entailed in these states, with these definitions

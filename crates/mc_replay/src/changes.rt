@@ -1,21 +1,22 @@
 // What the lines that change the states of a cut give there. Whether such a line may stand at a branch, and that its state is not
 // false, is known before.
-ghost use Rattle.std.specs.Prelude.{◌≡◌, ◌↔◌, ◌∷◌, [], All, IfOk, IsTrue, length};
+ghost use Rattle.std.specs.Prelude.{◌≡◌, ◌↔◌, ◌∷◌, [], All, IfOk, IsTrue, length, slice_get};
+ghost use Rattle.std.specs.Option.{option_copied};
 ghost use Rattle.std.specs.List.{AllByRecursion};
 ghost use Rattle.mc_base.specs.Ranges.Ends.{IsInt};
 ghost use Rattle.mc_state.specs.Facts.{IsTidy};
 ghost use Rattle.mc_state.specs.Lists.{all_both};
 ghost use Rattle.mc_joins.specs.Chains.Judges.{gets_stuck};
 ghost use Rattle.mc_replay.specs.Named.{IsGood};
-ghost use Rattle.mc_replay.specs.Changes.{states_held, AreTold, ForTests, IsJoined, IsOpened, IsRejoined, OpeningIsParted, JoiningIsParted};
+ghost use Rattle.mc_replay.specs.Changes.{states_held, AreMadeFor, ForTests, IsJoined, IsOpened, IsRejoined, OpeningIsParted, JoiningIsParted};
 
 use crate::answers::{Replayed, replay};
 use mc_base::{Items, NoMemory};
 use mc_flow::defs::Defs;
 use mc_joins::alike::{are_same, is_tidy};
 use mc_joins::anew::{Renewed, anew};
-use mc_joins::{joins_are_determined, joins_name_all};
-use mc_state::JoinStep;
+use mc_joins::{joins_are_determined, joins_make_well, joins_name_all, made_are_told};
+use mc_state::{JoinStep, tests_tell};
 use mc_symbolic::State;
 use std::alloc::Global;
 
@@ -88,9 +89,11 @@ pub fn opened(
     own: &State,
     tries: &[Items<JoinStep>],
 ) -> Result<Result<State, u8>, NoMemory>
-    requires { AreTold defs.now (own.now ∷ states_held lefts.now) }
+    requires { AreMadeFor defs.now (own.now ∷ states_held lefts.now) }
     ensures { IfOk result (IsOpened defs.now (states_held lefts.now) tries.now own.now) }
 {
+    // for the proof alone
+    tests_tell();
     if tries.len() != lefts.len() {
         return Ok(Err(3));
     }
@@ -130,6 +133,16 @@ fn joined(
     }
 }
 
+/// The state with a number, from 0 on.
+fn state_at<'a>(states: &[&'a State], number: u64) -> Option<&'a State>
+    ensures { option_copied result ≡ slice_get (states_held states.now) number }
+{
+    match states.get(number as usize) {
+        Some(state) => Some(*state),
+        None => None,
+    }
+}
+
 /// C3: what takes the place of a state of the cut, whose states are these: what a whole join of it with the branch's state gives. The
 /// cut has a state of this number (premise 3), both are tidy (4), the steps are a whole join (5), and what it gives is not the same
 /// as that state under any renaming (6).
@@ -143,13 +156,16 @@ pub fn rejoined(
     round: u64,
     thresholds: &[i64],
 ) -> Result<Result<State, u8>, NoMemory>
-    requires told { AreTold defs.now (own.now ∷ states_held lefts.now) }
+    requires made { AreMadeFor defs.now (own.now ∷ states_held lefts.now) }
     requires ints { All IsInt thresholds.now }
     ensures { IfOk result (IsRejoined defs.now round thresholds.now (states_held lefts.now) j steps.now own.now) }
 {
+    // for the proof alone
+    made_are_told();
     joins_name_all();
+    joins_make_well();
     joins_are_determined();
-    let Some(left) = lefts.get(j as usize) else {
+    let Some(left) = state_at(lefts, j) else {
         return Ok(Err(3));
     };
     if !is_tidy(alloc, own)? {

@@ -91,12 +91,12 @@ one_of Q (t ∷ states) zero s a e = let same : t ≡ s = cc e in subst Q same a
 one_of Q (t ∷ states) (suc j) s a e = one_of Q states j s a.1 e
 
 module _ (told : FalseIsTold) (k : Lore) (flow : Flow) (defs : List Def) (right : IsRight k flow defs) where
-  all_from : (states : List State) → AllByRecursion (Made flow defs) states → list_all k.tidy states ≡ true → AllByRecursion IsTidy states
+  pub all_from : (states : List State) → AllByRecursion (Made flow defs) states → list_all k.tidy states ≡ true → AllByRecursion IsTidy states
   all_from [] made e = tt
   all_from (s ∷ states) made e =
       let both = and_both (k.tidy s) (list_all k.tidy states) e in ((right.tidy s made.0).0 both.0, all_from states made.1 both.1)
 
-  all_to : (states : List State) → AllByRecursion (Made flow defs) states → AllByRecursion IsTidy states → list_all k.tidy states ≡ true
+  pub all_to : (states : List State) → AllByRecursion (Made flow defs) states → AllByRecursion IsTidy states → list_all k.tidy states ≡ true
   all_to [] made a = refl
   all_to (s ∷ states) made a = and_yes (k.tidy s) (list_all k.tidy states) ((right.tidy s made.0).1 a.0) (all_to states made.1 a.1)
 
