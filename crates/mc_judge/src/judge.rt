@@ -2,6 +2,7 @@
 
 mod judge;
 mod naming;
+mod open;
 mod pieces;
 mod stage;
 mod verdict;

@@ -2,7 +2,6 @@
 
 ghost use Rattle.mc_judge.specs.Judge.Laws.{OpenDocumentsEndEarly};
 
-use mc_kernel::reading::refusals_are_one;
 use mc_lines::cert::{line_is_spelled_once, spelled_lines_are_read};
 
 /// The verdict on a document whose lines are read and that has not ended is that it ends early.
@@ -11,5 +10,4 @@ pub fn open_documents_end_early()
 {
     line_is_spelled_once();
     spelled_lines_are_read();
-    refusals_are_one();
 }

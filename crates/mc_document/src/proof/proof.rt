@@ -158,7 +158,9 @@ impl<'f> Proof<'f> {
         ensures valid { IsValid self.now.flow self.now.defs }
         ensures heads { HeadsAreMade self.now.flow self.now.defs self.now.heads }
         ensures branches { AreMade self.now.flow self.now.defs self.now.branches }
-    {}
+    {
+        let _kept = &self.stage;
+    }
 
     /// A cut: a Skip, after the cut before.
     pub fn cut(&mut self, point: PointId) -> Result<(), ApplyFault>

@@ -1,5 +1,5 @@
 // Judges documents that come in pieces.
-ghost use Rattle.std.specs.Prelude.{◌≡◌, ◌≢◌, ◌+◌, ◌++◌, ◌∷◌, [], ℕ, Bool, List, length, IfOk, IfSome, MatchOption, OnErr, OnOk};
+ghost use Rattle.std.specs.Prelude.{◌≡◌, ◌≢◌, ◌+◌, ◌++◌, ◌∷◌, [], ℕ, List, length, IfOk, IfSome, MatchOption, OnErr, OnOk};
 ghost use Rattle.mc_lines.specs.Cert.Lines.{lines_of};
 ghost use Rattle.mc_flow.specs.declared.defs.rules.Def.{Def};
 ghost use Rattle.mc_flow.specs.declared.graph.Flow.{Flow as Graph};
@@ -8,21 +8,18 @@ ghost use Rattle.mc_judge.specs.Judge.Cuts.{HasNoFeed, IsCut};
 ghost use Rattle.mc_judge.specs.declared.judge.stage.Stage.TheVariants.{Spent};
 ghost use Rattle.mc_judge.specs.declared.judge.verdict.Refusal.{Refusal as Cause};
 ghost use Rattle.mc_judge.specs.Judge.Stages.{HasHeard, Hears, IsAt, StaysFor};
-ghost use Rattle.mc_judge.specs.Judge.Verdicts.{IsRefusal, IsVerdict, Tells, said_of};
-ghost use Rattle.mc_kernel.specs.Branches.{Path};
-ghost use Rattle.mc_kernel.specs.Judges.{Knowledge};
-ghost use Rattle.mc_kernel.specs.Reading.Documents.{IsJudge};
-ghost use Rattle.mc_state.specs.declared.raw_state.RawState.{RawState};
+ghost use Rattle.mc_judge.specs.Judge.Verdicts.{IsRefusal, IsVerdict, Tells};
+ghost use Rattle.mc_joins.specs.Chains.Judges.{Lore};
+ghost use Rattle.mc_joins.specs.Chains.Laws.{IsRight};
 
 use crate::judge::pieces::whole_line;
 use crate::judge::stage::{Stage, next_stage};
 use crate::judge::{Refusal, Verdict};
-use crate::proof::Complete;
 use mc_base::NoMemory;
 use mc_flow::{Defs, Flow};
-use mc_kernel::reading::{documents_are_read, refusals_are_one};
+use mc_joins::chains::{chain_judges_agree, joint_atoms_are_there, legal_chains_are_read};
+use mc_kernel::reading::documents_are_read;
 use mc_lines::cert::{line_is_spelled_once, spelled_lines_are_read};
-use mc_state::Form;
 use std::alloc::{AllocError, Global};
 use std::mem;
 
@@ -58,7 +55,7 @@ impl<'f> Judge<'f> {
     /// A judge that has read nothing.
     pub fn new(alloc: Global, flow: &'f Flow, defs: &'f Defs) -> Judge<'f>
         requires { IsValid flow.now defs.now }
-        ensures heard { (k : Knowledge) (well : RawState → Bool) → IsJudge k well flow.now defs.now → HasHeard k well [] result }
+        ensures heard { (k : Lore) → IsRight k flow.now defs.now → HasHeard k [] result }
         ensures flow { result.flow.now ≡ flow.now }
         ensures defs { result.defs.now ≡ defs.now }
     {
@@ -132,16 +129,15 @@ impl<'f> Judge<'f> {
 
     /// Why the first of the whole lines is refused that is; None exactly where none of them is.
     pub fn refused(&self) -> Option<&Refusal>
-        ensures refused { (k : Knowledge) (well : RawState → Bool) (text : List ℕ) (texts : List (List ℕ)) (rest : List ℕ)
-            → IsJudge k well self.now.flow.now self.now.defs.now → HasHeard k well text self.now → IsCut text texts rest
-            → MatchOption result ((cause : Cause) → IsRefusal k well self.now.flow.now self.now.defs.now texts cause → ⊥)
-            (λ cause. IsRefusal k well self.now.flow.now self.now.defs.now texts cause.now) }
+        ensures refused { (k : Lore) (text : List ℕ) (texts : List (List ℕ)) (rest : List ℕ)
+            → IsRight k self.now.flow.now self.now.defs.now → HasHeard k text self.now → IsCut text texts rest
+            → MatchOption result ((cause : Cause) → IsRefusal k self.now.flow.now self.now.defs.now texts cause → ⊥)
+            (λ cause. IsRefusal k self.now.flow.now self.now.defs.now texts cause.now) }
         ensures unspent { IfSome result (λ cause. self.now.stage ≢ Spent) }
     {
         // For the proof alone: what is refused is never read.
         line_is_spelled_once();
         spelled_lines_are_read();
-        refusals_are_one();
         match &self.stage {
             Stage::Refused(cause) => Some(cause),
             Stage::Unbegun => None,
@@ -154,19 +150,21 @@ impl<'f> Judge<'f> {
     /// The verdict on the document, however it was cut into pieces. No memory also where a piece found none.
     pub fn finish(self) -> Result<Verdict, NoMemory>
         requires { IsValid self.flow.now self.defs.now }
-        ensures verdict { (k : Knowledge) (well : RawState → Bool) (text : List ℕ)
-            → IsJudge k well self.entry.flow.now self.entry.defs.now → HasHeard k well text self.entry
-            → IfOk result (IsVerdict k well self.entry.flow.now self.entry.defs.now (lines_of text)) }
-        ensures tells { (k : Knowledge) (well : RawState → Bool) (text : List ℕ)
-            → IsJudge k well self.entry.flow.now self.entry.defs.now → HasHeard k well text self.entry
+        ensures verdict { (k : Lore) (text : List ℕ)
+            → IsRight k self.entry.flow.now self.entry.defs.now → HasHeard k text self.entry
+            → IfOk result (IsVerdict k self.entry.flow.now self.entry.defs.now (lines_of text)) }
+        ensures tells { (k : Lore) (text : List ℕ)
+            → IsRight k self.entry.flow.now self.entry.defs.now → HasHeard k text self.entry
             → IfOk result (Tells self.entry.flow.now self.entry.defs.now text) }
         ensures unspent { IfOk result (λ verdict. self.entry.stage ≢ Spent) }
     {
         // For the proof alone: which documents are read is known without a judge.
         line_is_spelled_once();
         spelled_lines_are_read();
-        refusals_are_one();
         documents_are_read();
+        legal_chains_are_read();
+        chain_judges_agree();
+        joint_atoms_are_there();
         let Judge {
             alloc,
             flow,
@@ -195,32 +193,16 @@ fn next_number(lines: u64) -> Result<u64, NoMemory>
     }
 }
 
-/// What is said of a document that has ended.
-fn said(complete: &Complete) -> Verdict
-    ensures { (stuck : List Path) → complete.now.alarms ≡ length stuck → result ≡ said_of complete.now.form stuck }
-{
-    match complete.form {
-        Form::Certificate => Verdict::Safe,
-        Form::Chain => {
-            if complete.alarms == 0 {
-                Verdict::Refused(Refusal::NoAlarm)
-            } else {
-                Verdict::Alarms(complete.alarms)
-            }
-        }
-    }
-}
-
 /// The verdict where a judge stands at the end of the document.
 fn verdict(stage: &Stage<'_>) -> Result<Verdict, NoMemory>
-    ensures verdict { (k : Knowledge) (well : RawState → Bool) (flow : Graph) (defs : List Def) (texts : List (List ℕ))
-        → IsAt k well flow defs texts stage.now → IfOk result (IsVerdict k well flow defs texts) }
+    ensures verdict { (k : Lore) (flow : Graph) (defs : List Def) (texts : List (List ℕ))
+        → IsAt k flow defs texts stage.now → IfOk result (IsVerdict k flow defs texts) }
     ensures unspent { IfOk result (λ verdict. stage.now ≢ Spent) }
 {
     match stage {
         Stage::Unbegun => Ok(Verdict::Refused(Refusal::EndsEarly)),
         Stage::Open(_) => Ok(Verdict::Refused(Refusal::EndsEarly)),
-        Stage::Ended(complete) => Ok(said(complete)),
+        Stage::Ended(verdict) => Ok(*verdict),
         Stage::Refused(cause) => Ok(Verdict::Refused(*cause)),
         Stage::Spent => Err(AllocError),
     }

@@ -1,5 +1,5 @@
 // Where a judge of documents stands.
-ghost use Rattle.std.specs.Prelude.{◌≡◌, ◌∷◌, ◌++◌, ◌≢◌, [], ℕ, Bool, List, Err, length, suc, IfOk, MatchOption, OnErr, OnOk};
+ghost use Rattle.std.specs.Prelude.{◌≡◌, ◌∷◌, ◌++◌, ◌≢◌, [], ℕ, List, Err, length, suc, IfOk, MatchOption, OnErr, OnOk};
 ghost use Rattle.mc_lines.specs.declared.cert.line.Line.TheVariants.{Header};
 ghost use Rattle.mc_lines.specs.Cert.Document.{ReadsAs, Spells};
 ghost use Rattle.mc_flow.specs.declared.defs.rules.Def.{Def};
@@ -10,19 +10,18 @@ ghost use Rattle.mc_judge.specs.declared.judge.verdict.Refusal.{Refusal as Cause
 ghost use Rattle.mc_judge.specs.declared.judge.verdict.Refusal.TheVariants.{Rule};
 ghost use Rattle.mc_judge.specs.Judge.Stages.{IsAt, Leads, needs_more};
 ghost use Rattle.mc_judge.specs.Judge.Verdicts.{GoesOn, IsReading};
-ghost use Rattle.mc_kernel.specs.Judges.{Knowledge};
-ghost use Rattle.mc_kernel.specs.Readings.{Reading};
+ghost use Rattle.mc_judge.specs.Documents.{Document, StandsFor};
+ghost use Rattle.mc_joins.specs.Chains.Judges.{Lore};
 ghost use Rattle.mc_document.specs.declared.proof.fault.ApplyFault.TheVariants.{NoMemory, Premise};
-ghost use Rattle.mc_document.specs.Proof.Positions.{Stands};
 ghost use Rattle.mc_state.specs.declared.line.Form.{Form as DocumentForm};
 ghost use Rattle.mc_state.specs.declared.line.Version.{Version as DocumentVersion};
 ghost use Rattle.mc_state.specs.declared.line.Version.TheVariants.{One};
-ghost use Rattle.mc_state.specs.declared.raw_state.RawState.{RawState};
 
-use crate::judge::Refusal;
 use crate::judge::naming::name_of;
-use crate::proof::{ApplyFault, Complete, Proof};
+use crate::judge::open::OpenDocument;
+use crate::judge::{Refusal, Verdict};
 use mc_base::NoMemory;
+use mc_document::proof::ApplyFault;
 use mc_flow::{Defs, Flow};
 use mc_lines::cert::{Form, Line, LineFault, Version, line_of};
 use std::alloc::{AllocError, Global};
@@ -33,9 +32,9 @@ pub enum Stage<'f> {
     /// No line is read.
     Unbegun,
     /// Its lines are read so far, and more are to come.
-    Open(Proof<'f>),
-    /// Its end line is read.
-    Ended(Complete),
+    Open(OpenDocument<'f>),
+    /// Its end line is read, and this is said of it.
+    Ended(Verdict),
     /// A line is refused.
     Refused(Refusal),
     /// There was no memory to judge a line.
@@ -44,9 +43,9 @@ pub enum Stage<'f> {
 
 /// The refusal of bytes that are no line; nothing where there was no memory to tell.
 fn no_line<'f>(number: u64, fault: LineFault) -> Stage<'f>
-    ensures { (k : Knowledge) (well : RawState → Bool) (flow : Graph) (defs : List Def) (before : List (List ℕ)) (bytes : List ℕ)
-        → number ≡ suc (length before) → GoesOn k well flow defs before → ReadsAs bytes (Err fault)
-        → IsAt k well flow defs (before ++ bytes ∷ []) result }
+    ensures { (k : Lore) (flow : Graph) (defs : List Def) (before : List (List ℕ)) (bytes : List ℕ)
+        → number ≡ suc (length before) → GoesOn k flow defs before → ReadsAs bytes (Err fault)
+        → IsAt k flow defs (before ++ bytes ∷ []) result }
 {
     match fault {
         LineFault::NoMemory => Stage::Spent,
@@ -74,11 +73,9 @@ fn begun<'f>(alloc: Global, flow: &'f Flow, defs: &'f Defs, bytes: &[u8]) -> Sta
     requires { IsValid flow.now defs.now }
     ensures { Leads flow.now defs.now bytes.now [] Unbegun result }
 {
-    // For the proof alone: a document that is begun is kept.
-    mc_kernel::reading::lines_are_read();
     match line_of(alloc, bytes) {
         Ok(line) => match form_of(&line) {
-            Some(form) => Stage::Open(Proof::start(alloc, flow, defs, form)),
+            Some(form) => Stage::Open(OpenDocument::begin(alloc, flow, defs, form)),
             None => Stage::Refused(Refusal::Rule(1, name_of(&line), 1)),
         },
         Err(fault) => no_line(1, fault),
@@ -86,14 +83,13 @@ fn begun<'f>(alloc: Global, flow: &'f Flow, defs: &'f Defs, bytes: &[u8]) -> Sta
 }
 
 /// What the document is by a line that was applied: it has ended, or goes on.
-fn applied<'f>(proof: Proof<'f>) -> Stage<'f>
-    ensures { (k : Knowledge) (well : RawState → Bool) (flow : Graph) (defs : List Def) (texts : List (List ℕ)) (r : Reading)
-        → IsReading k well flow defs texts r → proof.entry.flow ≡ flow → proof.entry.defs ≡ defs
-        → Stands k well r proof.entry → IsAt k well flow defs texts result }
+fn applied<'f>(document: OpenDocument<'f>) -> Stage<'f>
+    ensures { (k : Lore) (flow : Graph) (defs : List Def) (texts : List (List ℕ)) (d : Document)
+        → IsReading k flow defs texts d → StandsFor k flow defs d document.entry → IsAt k flow defs texts result }
 {
-    match proof.finish() {
-        Ok(complete) => Stage::Ended(complete),
-        Err(proof) => Stage::Open(proof),
+    match document.finish() {
+        Ok(verdict) => Stage::Ended(verdict),
+        Err(document) => Stage::Open(document),
     }
 }
 
@@ -109,26 +105,23 @@ fn unmet<'f>(number: u64, name: &'static str, fault: ApplyFault) -> Stage<'f>
 }
 
 /// A line after others.
-fn taken<'f>(mut proof: Proof<'f>, number: u64, line: &Line) -> Stage<'f>
-    ensures { (flow : Graph) (defs : List Def) (texts : List (List ℕ)) (bytes : List ℕ) → IsValid flow defs
-        → number ≡ suc (length texts) → Spells bytes line.now → Leads flow defs bytes texts (Open proof.entry) result }
+fn taken<'f>(mut document: OpenDocument<'f>, number: u64, line: &Line) -> Stage<'f>
+    ensures { (flow : Graph) (defs : List Def) (texts : List (List ℕ)) (bytes : List ℕ)
+        → number ≡ suc (length texts) → Spells bytes line.now → Leads flow defs bytes texts (Open document.entry) result }
 {
-    // For the proof alone: a document is kept line by line, and goes on so.
-    mc_kernel::reading::lines_are_read();
-    mc_kernel::reading::documents_go_on();
-    match proof.apply(line) {
-        Ok(()) => applied(proof),
+    match document.apply(line) {
+        Ok(()) => applied(document),
         Err(fault) => unmet(number, name_of(line), fault),
     }
 }
 
 /// The bytes of a line after others.
-fn gone_on<'f>(alloc: Global, proof: Proof<'f>, number: u64, bytes: &[u8]) -> Stage<'f>
-    ensures { (flow : Graph) (defs : List Def) (texts : List (List ℕ)) → IsValid flow defs → number ≡ suc (length texts)
-        → Leads flow defs bytes.now texts (Open proof.entry) result }
+fn gone_on<'f>(alloc: Global, document: OpenDocument<'f>, number: u64, bytes: &[u8]) -> Stage<'f>
+    ensures { (flow : Graph) (defs : List Def) (texts : List (List ℕ)) → number ≡ suc (length texts)
+        → Leads flow defs bytes.now texts (Open document.entry) result }
 {
     match line_of(alloc, bytes) {
-        Ok(line) => taken(proof, number, &line),
+        Ok(line) => taken(document, number, &line),
         Err(fault) => no_line(number, fault),
     }
 }
@@ -150,7 +143,7 @@ pub fn next_stage<'f>(
 {
     match stage {
         Stage::Unbegun => begun(alloc, flow, defs, bytes),
-        Stage::Open(proof) => gone_on(alloc, proof, number, bytes),
+        Stage::Open(document) => gone_on(alloc, document, number, bytes),
         Stage::Ended(_) => Stage::Refused(Refusal::AfterEnd(number)),
         Stage::Refused(refusal) => Stage::Refused(refusal),
         Stage::Spent => Stage::Spent,

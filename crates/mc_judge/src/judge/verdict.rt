@@ -12,8 +12,10 @@ pub enum Refusal {
     AfterEnd(u64),
     /// There is no end line.
     EndsEarly,
-    /// A chain changes nothing, and no instruction is stuck.
+    /// The last pass of a chain changes nothing, and no instruction is stuck in it.
     NoAlarm,
+    /// The last pass of a chain changes the states of its cuts.
+    Unfinished,
 }
 
 /// The verdict on a document.
