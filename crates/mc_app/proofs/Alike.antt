@@ -26,11 +26,11 @@ use Rattle.mc_load.specs.declared.inputs.refusal.NoDefinitions.TheVariants as no
 use Rattle.mc_load.specs.declared.inputs.refusal.NoProgram.TheVariants as no_program
 use Rattle.mc_load.specs.declared.inputs.refusal.Refusal.{Refusal}
 use Rattle.mc_load.specs.declared.inputs.refusal.Refusal.TheVariants.{Program, Definitions, Misfit}
-use Rattle.mc_document.specs.declared.judge.verdict.Verdict.{Verdict}
-use Rattle.mc_document.specs.declared.judge.verdict.Refusal.TheVariants.{EndsEarly}
-use Rattle.mc_document.specs.declared.judge.verdict.Verdict.TheVariants.{Refused as Mistaken}
-use Rattle.mc_document.specs.Judge.Laws.{OpenDocumentsEndEarly}
-use Rattle.mc_document.specs.Judge.Verdicts.{GoesOn, IsCertificate, IsChain, SpellAll}
+use Rattle.mc_judge.specs.declared.judge.verdict.Verdict.{Verdict}
+use Rattle.mc_judge.specs.declared.judge.verdict.Refusal.TheVariants.{EndsEarly}
+use Rattle.mc_judge.specs.declared.judge.verdict.Verdict.TheVariants.{Refused as Mistaken}
+use Rattle.mc_judge.specs.Judge.Laws.{OpenDocumentsEndEarly}
+use Rattle.mc_judge.specs.Judge.Verdicts.{GoesOn, IsCertificate, IsChain, SpellAll}
 use Rattle.mc_lower_spec.specs.Graphs.{Graph}
 use Rattle.mc_lower_spec.specs.Lowering.{IsLowering}
 use Rattle.mc_load.specs.declared.read.cause.Refusal.{Refusal as ProgramFault}

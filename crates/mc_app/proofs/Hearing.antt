@@ -4,11 +4,11 @@ use Rattle.std.proofs.Math.Seq.{take-add}
 use Rattle.mc_lines.specs.Cert.Lines.{lines_of}
 use Rattle.mc_flow.specs.declared.defs.rules.Def.{Def}
 use Rattle.mc_flow.specs.declared.graph.Flow.{Flow}
-use Rattle.mc_document.specs.declared.judge.judge.Judge.{Judge}
+use Rattle.mc_judge.specs.declared.judge.judge.Judge.{Judge}
 use Rattle.mc_flow.specs.Valid.{IsValid}
-use Rattle.mc_document.specs.declared.judge.verdict.Verdict.{Verdict}
-use Rattle.mc_document.specs.Judge.Stages.{HasHeard, Hears, StaysFor}
-use Rattle.mc_document.specs.Judge.Verdicts.{IsVerdict, Tells}
+use Rattle.mc_judge.specs.declared.judge.verdict.Verdict.{Verdict}
+use Rattle.mc_judge.specs.Judge.Stages.{HasHeard, Hears, StaysFor}
+use Rattle.mc_judge.specs.Judge.Verdicts.{IsVerdict, Tells}
 use Rattle.mc_kernel.specs.Certificates.{LastPassFindsFaults, states_of}
 use Rattle.mc_kernel.specs.Judges.{Knowledge}
 use Rattle.mc_kernel.specs.Reading.Documents.{IsJudge}

@@ -2,8 +2,8 @@
 use Rattle.std.proofs.Common.{◌≡◌, ◌∙◌, ◌<◌, ℕ, Bool, List, Option, Some, codes, inl, inr, refl, ap, subst, length, arith}
 use Rattle.std.specs.Prelude.{Ok}
 use Rattle.mc_c_syntax.specs.Ast.Trees.{UnitTree}
-use Rattle.mc_document.specs.declared.judge.verdict.Refusal.TheVariants.{EndsEarly}
-use Rattle.mc_document.specs.declared.judge.verdict.Verdict.TheVariants.{Safe, Alarms, Refused as Mistaken}
+use Rattle.mc_judge.specs.declared.judge.verdict.Refusal.TheVariants.{EndsEarly}
+use Rattle.mc_judge.specs.declared.judge.verdict.Verdict.TheVariants.{Safe, Alarms, Refused as Mistaken}
 use Rattle.mc_find.specs.declared.analysis.analysis.Analysis.TheVariants as analysis
 use Rattle.mc_find.specs.declared.analysis.analysis.Findings.{Findings}
 use Rattle.mc_flow.specs.declared.defs.rules.Def.{Def}

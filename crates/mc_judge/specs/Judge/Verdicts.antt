@@ -15,6 +15,7 @@ use Rattle.mc_state.specs.declared.line.Form.{Form}
 use Rattle.mc_state.specs.declared.line.Version.{Version}
 use Rattle.mc_state.specs.declared.line.Version.TheVariants.{One}
 use Rattle.mc_kernel.specs.Certificates.{IsValidCertificate}
+pub use Rattle.mc_document.specs.Spelled.{SpellAll}
 use Rattle.mc_joins.specs.Chains.Chains.{HasAlarms, HasNoAlarm, IsUnfinished, KnowsStates}
 use Rattle.mc_joins.specs.Chains.Judges as chains
 use Rattle.mc_joins.specs.Chains.Judges.{Lore, verdict_of}
@@ -23,13 +24,6 @@ use Rattle.mc_judge.specs.declared.judge.verdict.Refusal.TheVariants as refusal
 use Rattle.mc_judge.specs.declared.judge.verdict.Verdict.{Verdict}
 use Rattle.mc_judge.specs.declared.judge.verdict.Verdict.TheVariants.{Safe, Alarms, Refused}
 use Rattle.mc_judge.specs.Documents.{Document, certificate, chain, IsEnded, read_document, read_line}
-
--- each of the texts spells the line in its place
-abbrev pub SpellAll : List (List ℕ) → List Line → Type 0
-SpellAll [] [] = Unit {0}
-SpellAll [] (line ∷ lines) = ⊥
-SpellAll (text ∷ texts) [] = ⊥
-SpellAll (text ∷ texts) (line ∷ lines) = Spells text line × SpellAll texts lines
 
 -- the texts spell a document's header and lines that are read, and this is what the document has become
 pub record IsReading (k : Lore) (flow : Flow) (defs : List Def) (texts : List (List ℕ)) (d : Document) : Type 0 where
