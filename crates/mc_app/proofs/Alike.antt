@@ -11,14 +11,10 @@ use Rattle.mc_flow.specs.declared.defs.rules.Def.{Def}
 use Rattle.mc_flow.specs.declared.defs.shapes.StructInfo.{StructInfo}
 use Rattle.mc_flow.specs.declared.graph.Flow.{Flow}
 use Rattle.mc_flow.specs.Valid.{IsValid}
-use Rattle.mc_follow.specs.Alarms.Outcomes.{IsFront}
-use Rattle.mc_kernel.specs.Judges.{Knowledge}
-use Rattle.mc_kernel.specs.Oracle.Judges.{JudgesAreThere}
-use Rattle.mc_kernel.specs.Reading.Documents.{IsJudge}
+use Rattle.mc_document.specs.Spelled.{SpellAll}
+use Rattle.mc_joins.specs.Chains.ReadLaws.{LoresAreThere, ShortChainsAreLegal}
+use Rattle.mc_joins.specs.Chains.Short.{ShortReadingsAgree}
 use Rattle.mc_lines.specs.Cert.Lines.{lines_of}
-use Rattle.mc_lines.specs.declared.cert.line.Line.{Line}
-use Rattle.mc_state.specs.declared.line.Form.TheVariants.{Chain}
-use Rattle.mc_state.specs.declared.raw_state.RawState.{RawState}
 use Rattle.mc_load.specs.Inputs.Inputs.{AreInputs, Holds, IsRefused}
 use Rattle.mc_load.specs.Inputs.Texts.{AreDefinitions, HasMisfit, IsProgramHere}
 use Rattle.mc_load.specs.declared.inputs.reading.Sources.{Sources}
@@ -26,11 +22,11 @@ use Rattle.mc_load.specs.declared.inputs.refusal.NoDefinitions.TheVariants as no
 use Rattle.mc_load.specs.declared.inputs.refusal.NoProgram.TheVariants as no_program
 use Rattle.mc_load.specs.declared.inputs.refusal.Refusal.{Refusal}
 use Rattle.mc_load.specs.declared.inputs.refusal.Refusal.TheVariants.{Program, Definitions, Misfit}
-use Rattle.mc_document.specs.declared.judge.verdict.Verdict.{Verdict}
-use Rattle.mc_document.specs.declared.judge.verdict.Refusal.TheVariants.{EndsEarly}
-use Rattle.mc_document.specs.declared.judge.verdict.Verdict.TheVariants.{Refused as Mistaken}
-use Rattle.mc_document.specs.Judge.Laws.{OpenDocumentsEndEarly}
-use Rattle.mc_document.specs.Judge.Verdicts.{GoesOn, IsCertificate, IsChain, SpellAll}
+use Rattle.mc_judge.specs.declared.judge.verdict.Verdict.{Verdict}
+use Rattle.mc_judge.specs.declared.judge.verdict.Refusal.TheVariants.{EndsEarly}
+use Rattle.mc_judge.specs.declared.judge.verdict.Verdict.TheVariants.{Refused as Mistaken}
+use Rattle.mc_judge.specs.Judge.Laws.{OpenDocumentsEndEarly}
+use Rattle.mc_judge.specs.Judge.Verdicts.{IsCertificate, Tells}
 use Rattle.mc_lower_spec.specs.Graphs.{Graph}
 use Rattle.mc_lower_spec.specs.Lowering.{IsLowering}
 use Rattle.mc_load.specs.declared.read.cause.Refusal.{Refusal as ProgramFault}
@@ -57,6 +53,8 @@ use Rattle.mc_app.specs.declared.analysing.Analysed.TheVariants as results
 use Rattle.mc_app.specs.declared.answer.Status.TheVariants as statuses
 use Rattle.mc_app.specs.declared.checking.Checked.{Checked as Found}
 use Rattle.mc_app.specs.declared.checking.Checked.TheVariants.{TooLong, Judged}
+use Rattle.mc_app.proofs.Chains.{alarms_said}
+use Rattle.mc_app.proofs.Openings.{front_goes_on}
 use Rattle.mc_app.proofs.Asked.{no_analysis, no_demo_analysis, no_demo_check, no_other, no_run, one_word}
 
 -- what is known of texts and flow graphs
@@ -64,7 +62,9 @@ pub record Laws : Type 0 where
   pub read_once : (text : List ℕ) (one other : UnitTree) → IsReadAs text one → IsReadAs text other → one ≡ other
   pub not_refused : (text entry : List ℕ) (unit : UnitTree) (refusal : ProgramFault) → IsProgramOf text entry unit → IsProgramRefused text entry refusal → ⊥
   pub defined_once : (text : List ℕ) (structs : List StructInfo) (one other : JudgedText (List Def)) → ReadsAs text structs one → ReadsAs text structs other → one ≡ other
-  pub judged : JudgesAreThere
+  pub judged : LoresAreThere
+  pub legal : ShortChainsAreLegal
+  pub short : ShortReadingsAgree
   pub early : OpenDocumentsEndEarly
   pub one_graph : (g h : Graph) (entry start : Function) (out count left more : ℕ) → g.program ≡ h.program → g.flow.structs ≡ h.flow.structs
       → IsLowering g entry out count → IsLowering h start left more → (g.flow ≡ h.flow) × (g.stops ≡ h.stops)
@@ -131,36 +131,26 @@ AlikeFound (analysis.Alarms f count) ending = checked_status ending ≡ statuses
 AlikeFound (analysis.Paths document) ending = ending ≡ Judged (Mistaken EndsEarly)
 AlikeFound analysis.Unknown ending = Unit {0}
 
--- a document that begins a chain goes on
-front_goes_on : (k : Knowledge) (well : RawState → Bool) (flow : Flow) (defs : List Def) (texts : List (List ℕ)) (lines : List Line) → IsJudge k well flow defs → SpellAll texts lines
-    → IsFront flow defs lines → GoesOn k well flow defs texts
-front_goes_on k well flow defs [] lines right spelled front = tt
-front_goes_on k well flow defs (t ∷ texts) lines right spelled front =
-    let open_is = front.reads k well right in (
-      open_is.last,
-      record { form = Chain; lines = front.behind; spelled = subst (λ (ls : List Line). SpellAll (t ∷ texts) ls) front.spelled spelled; read = open_is.read },
-      open_is.not_ended,
-    )
-
 -- the verdict on the document of what was found
 verdict_is : Laws → (flow : Flow) (defs : List Def) (merge : Bool) (found : Analysis) (document : List ℕ) (v : Verdict) → IsValid flow defs → IsAnalysis flow defs merge found
     → analysed_document (results.Found found) ≡ Some document → IsVerdictOn flow defs document v → AlikeFound found (Judged v)
 verdict_is laws flow defs merge (analysis.Safe f) document v valid proved is said =
     let document_is : document ≡ f.document.items = cc in
-    let certificate : IsCertificate flow defs f.document.items = record { lines = proved.lines; spelled = proved.spelled; valid = proved.valid } in
+    let certificate : IsCertificate flow defs f.document.items = record { lines = proved.lines; spelled = proved.spelled; holds = proved.valid } in
     let safe = said.0.safe.1 (subst (λ (t : List ℕ). IsCertificate flow defs t) (sym document_is) certificate) in
     ap (λ (x : Verdict). checked_status (Judged x)) safe
 verdict_is laws flow defs merge (analysis.Alarms f count) document v valid found is said =
     let document_is : document ≡ f.document.items = cc in
-    let chain : IsChain flow defs f.document.items found.stuck = record { lines = found.lines; spelled = found.spelled; short = found.chain } in
-    let alarms = (said.0.alarms count).1 (found.stuck, subst (λ (t : List ℕ). IsChain flow defs t found.stuck) (sym document_is) chain, found.counted, found.some) in
+    let known = laws.judged flow defs valid in
+    let told = subst (λ (t : List ℕ). Tells flow defs t v) document_is said.0 in
+    let alarms = alarms_said flow defs known.0.lines.know known.1.knows laws.legal merge f count v found told in
     ap (λ (x : Verdict). checked_status (Judged x)) alarms
 verdict_is laws flow defs merge (analysis.Paths text) document v valid crowded is said =
     let document_is : document ≡ text.items = cc in
     let known = laws.judged flow defs valid in
     let spelled = subst (λ (t : List ℕ). SpellAll (lines_of t) crowded.lines) (sym document_is) crowded.spelled in
-    let goes = front_goes_on known.0 known.1 flow defs (lines_of document) crowded.lines known.2 spelled crowded.crowded.front in
-    let early = laws.early known.0 known.1 flow defs (lines_of document) v (said.1 known.0 known.1 known.2) goes in
+    let goes = front_goes_on known.0 flow defs laws.short (lines_of document) crowded.lines known.1 spelled crowded.crowded.front in
+    let early = laws.early known.0 flow defs (lines_of document) v (said.1 known.0 known.1) goes in
     ap (λ (x : Verdict). Judged x) early
 verdict_is laws flow defs merge analysis.Unknown document v valid found is said = tt
 

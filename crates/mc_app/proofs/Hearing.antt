@@ -1,29 +1,26 @@
 -- What a judge has read of a file.
-use Rattle.std.proofs.Common.{◌≡◌, ◌≤◌, ◌++◌, ◌+◌, ℕ, zero, suc, Bool, List, [], ◌∷◌, length, refl, ap, arith, take, drop, subst, sym, ap₂, ◌∙◌}
+use Rattle.std.proofs.Common.{◌≡◌, ◌≤◌, ◌++◌, ◌+◌, ℕ, zero, suc, List, [], ◌∷◌, length, refl, ap, arith, take, drop, subst, sym, ap₂, ◌∙◌}
 use Rattle.std.proofs.Math.Seq.{take-add}
 use Rattle.mc_lines.specs.Cert.Lines.{lines_of}
 use Rattle.mc_flow.specs.declared.defs.rules.Def.{Def}
 use Rattle.mc_flow.specs.declared.graph.Flow.{Flow}
-use Rattle.mc_document.specs.declared.judge.judge.Judge.{Judge}
-use Rattle.mc_flow.specs.Valid.{IsValid}
-use Rattle.mc_document.specs.declared.judge.verdict.Verdict.{Verdict}
-use Rattle.mc_document.specs.Judge.Stages.{HasHeard, Hears, StaysFor}
-use Rattle.mc_document.specs.Judge.Verdicts.{IsVerdict, Tells}
-use Rattle.mc_kernel.specs.Certificates.{LastPassFindsFaults, states_of}
-use Rattle.mc_kernel.specs.Judges.{Knowledge}
-use Rattle.mc_kernel.specs.Reading.Documents.{IsJudge}
-use Rattle.mc_state.specs.declared.raw_state.RawState.{RawState}
-use Rattle.mc_app.specs.Documents.{AlarmsAreFound, IsHeard, IsRightVerdict}
+use Rattle.mc_judge.specs.declared.judge.judge.Judge.{Judge}
+use Rattle.mc_judge.specs.declared.judge.verdict.Verdict.{Verdict}
+use Rattle.mc_judge.specs.Judge.Stages.{HasHeard, Hears, StaysFor}
+use Rattle.mc_judge.specs.Judge.Verdicts.{IsVerdict, Tells}
+use Rattle.mc_joins.specs.Chains.Judges.{Lore}
+use Rattle.mc_joins.specs.Chains.Laws.{IsRight}
+use Rattle.mc_app.specs.Documents.{IsHeard, IsRightVerdict}
 
 -- who judges rightly for one judge does so for another of the same flow graph and definitions
-judges_too : (k : Knowledge) (well : RawState → Bool) (f g : Flow) (ds es : List Def) → f ≡ g → ds ≡ es → IsJudge k well f ds → IsJudge k well g es
-judges_too k well f g ds es e d h = subst (λ (xs : List Def). IsJudge k well g xs) d (subst (λ (x : Flow). IsJudge k well x ds) e h)
+judges_too : (k : Lore) (f g : Flow) (ds es : List Def) → f ≡ g → ds ≡ es → IsRight k f ds → IsRight k g es
+judges_too k f g ds es e d h = subst (λ (xs : List Def). IsRight k g xs) d (subst (λ (x : Flow). IsRight k x ds) e h)
 
 -- the judge has read a piece more
 pub heard_more : (text piece : List ℕ) (old new : Judge) → StaysFor old new → IsHeard text old → Hears piece old new → IsHeard (text ++ piece) new
-heard_more text piece old new same heard hears k well judge =
-    let before = judges_too k well new.flow.now old.flow.now new.defs.now old.defs.now same.0 same.1 judge in
-    hears k well text before (heard k well before)
+heard_more text piece old new same heard hears k judge =
+    let before = judges_too k new.flow.now old.flow.now new.defs.now old.defs.now same.0 same.1 judge in
+    hears k text before (heard k before)
 
 -- and with it the front of what is held
 pub front_more : (bytes text piece : List ℕ) (at n : ℕ) → text ≡ take at bytes → piece ≡ take n (drop at bytes) → text ++ piece ≡ take (at + n) bytes
@@ -31,30 +28,30 @@ front_more bytes text piece at n e d = ap₂ (λ (a b : List ℕ). a ++ b) e d �
 
 -- the judge that has read nothing
 pub fresh : (flow : Flow) (defs : List Def) (judge : Judge) → judge.flow.now ≡ flow → judge.defs.now ≡ defs
-    → ((k : Knowledge) (well : RawState → Bool) → IsJudge k well flow defs → HasHeard k well [] judge) → IsHeard [] judge
-fresh flow defs judge e d heard k well right = heard k well (judges_too k well judge.flow.now flow judge.defs.now defs e d right)
+    → ((k : Lore) → IsRight k flow defs → HasHeard k [] judge) → IsHeard [] judge
+fresh flow defs judge e d heard k right = heard k (judges_too k judge.flow.now flow judge.defs.now defs e d right)
 
 module _ (flow : Flow) (defs : List Def) (judge : Judge) (same_flow : judge.flow.now ≡ flow) (same_defs : judge.defs.now ≡ defs) (text : List ℕ) (heard : IsHeard text judge) where
-  abbrev back : (k : Knowledge) (well : RawState → Bool) → IsJudge k well flow defs → IsJudge k well judge.flow.now judge.defs.now
-  back k well right = judges_too k well flow judge.flow.now defs judge.defs.now (sym same_flow) (sym same_defs) right
+  abbrev back : (k : Lore) → IsRight k flow defs → IsRight k judge.flow.now judge.defs.now
+  back k right = judges_too k flow judge.flow.now defs judge.defs.now (sym same_flow) (sym same_defs) right
 
   -- what is said of what was read is said rightly
   pub right_verdict : (v : Verdict)
-      → ((k : Knowledge) (well : RawState → Bool) (t : List ℕ) → IsJudge k well judge.flow.now judge.defs.now → HasHeard k well t judge → IsVerdict k well judge.flow.now judge.defs.now (lines_of t) v)
+      → ((k : Lore) (t : List ℕ) → IsRight k judge.flow.now judge.defs.now → HasHeard k t judge → IsVerdict k judge.flow.now judge.defs.now (lines_of t) v)
       → IsRightVerdict flow defs text v
-  right_verdict v h = λ k well right.
-      subst (λ (ds : List Def). IsVerdict k well flow ds (lines_of text) v) same_defs
-      (subst (λ (f : Flow). IsVerdict k well f judge.defs.now (lines_of text) v) same_flow
-      (h k well text (back k well right) (heard k well (back k well right))))
+  right_verdict v h = λ k right.
+      subst (λ (ds : List Def). IsVerdict k flow ds (lines_of text) v) same_defs
+      (subst (λ (f : Flow). IsVerdict k f judge.defs.now (lines_of text) v) same_flow
+      (h k text (back k right) (heard k (back k right))))
 
   -- and without a judge
-  pub told_verdict : (v : Verdict) (k : Knowledge) (well : RawState → Bool) → IsJudge k well flow defs
-      → ((k : Knowledge) (well : RawState → Bool) (t : List ℕ) → IsJudge k well judge.flow.now judge.defs.now → HasHeard k well t judge → Tells judge.flow.now judge.defs.now t v)
+  pub told_verdict : (v : Verdict) (k : Lore) → IsRight k flow defs
+      → ((k : Lore) (t : List ℕ) → IsRight k judge.flow.now judge.defs.now → HasHeard k t judge → Tells judge.flow.now judge.defs.now t v)
       → Tells flow defs text v
-  told_verdict v k well right h =
+  told_verdict v k right h =
       subst (λ (ds : List Def). Tells flow ds text v) same_defs
       (subst (λ (f : Flow). Tells f judge.defs.now text v) same_flow
-      (h k well text (back k well right) (heard k well (back k well right))))
+      (h k text (back k right) (heard k (back k right))))
 
 -- the front of what stands before other bytes
 pub front_of : (n : ℕ) (xs ys : List ℕ) → n ≤ length xs → take n (xs ++ ys) ≡ take n xs
@@ -66,11 +63,3 @@ pub front_length : (n : ℕ) (xs ys : List ℕ) → n ≤ length xs → length (
 front_length zero xs ys h = refl
 front_length (suc n) [] ys h = absurd (omega arith)
 front_length (suc n) (x ∷ xs) ys h = ap suc (front_length n xs ys (omega arith))
-
--- ---- alarms
-
-pub alarms_found : LastPassFindsFaults → (flow : Flow) (defs : List Def) → IsValid flow defs → (text : List ℕ) (v : Verdict) → Tells flow defs text v → AlarmsAreFound flow defs text v
-alarms_found faults flow defs valid text v told count e =
-    let chain = (told.alarms count).0 e in
-    let short = chain.1.short in
-    (chain.0, chain.1, chain.2, faults flow defs short.cuts (states_of short.heads) short.rules chain.0 valid short.pass)

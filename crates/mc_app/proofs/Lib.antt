@@ -3,6 +3,8 @@ pub mod Causes
 pub mod Seeing
 pub mod Fronts
 pub mod Hearing
+pub mod Chains
+pub mod Openings
 pub mod Leaving
 pub mod Printing
 pub mod Safe

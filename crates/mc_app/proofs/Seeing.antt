@@ -2,15 +2,17 @@
 use Rattle.std.proofs.Common.{◌≡◌, ◌∙◌, ◌++◌, ◌+◌, ℕ, zero, suc, false, List, [], ◌∷◌, inl, inr, refl, sym, ap, subst, length, arith}
 use Rattle.std.specs.Prelude.{IfErr, Result, Ok, Err}
 use Rattle.std.proofs.lemmas.List.{append-nil, append_assoc}
-use Rattle.mc_document.specs.Judge.Verdicts.{IsCertificate, IsChain}
-use Rattle.mc_document.specs.declared.judge.verdict.Verdict.{Verdict}
-use Rattle.mc_document.specs.declared.judge.verdict.Verdict.TheVariants as verdict
+use Rattle.mc_judge.specs.Judge.Verdicts.{IsCertificate}
+use Rattle.mc_judge.specs.declared.judge.verdict.Verdict.{Verdict}
+use Rattle.mc_judge.specs.declared.judge.verdict.Verdict.TheVariants as verdict
 use Rattle.mc_find.specs.Analysis.Findings.{HasAlarms, IsAnalysis, IsProved}
 use Rattle.mc_find.specs.declared.analysis.analysis.Analysis.{Analysis}
 use Rattle.mc_find.specs.declared.analysis.analysis.Analysis.TheVariants as analysis
 use Rattle.mc_find.specs.declared.analysis.analysis.Findings.{Findings}
 use Rattle.mc_flow.specs.declared.defs.rules.Def.{Def}
 use Rattle.mc_flow.specs.declared.graph.Flow.{Flow}
+use Rattle.mc_flow.specs.Valid.{IsValid}
+use Rattle.mc_joins.specs.Chains.ReadLaws.{LoresAreThere, ShortChainsAreLegal}
 use Rattle.mc_gen.specs.Programs.{kinds_of, next_program}
 use Rattle.mc_gen.specs.Texts.{program_text}
 use Rattle.mc_gen.specs.declared.kinds.BlockKind.{BlockKind}
@@ -32,6 +34,7 @@ use Rattle.mc_app.specs.declared.demo.seen.Seen.TheVariants.{Judged}
 use Rattle.mc_app.specs.declared.words.words.Request.{Request}
 use Rattle.mc_app.specs.declared.words.words.Request.TheVariants as request
 use Rattle.mc_load.specs.declared.inputs.refusal.Refusal.{Refusal}
+use Rattle.mc_app.proofs.Chains.{alarms_said}
 use Rattle.mc_app.proofs.Asked.{no_demo_analysis, no_demo_check, no_demo_run}
 
 -- ---- verdicts on the documents of an analysis
@@ -39,14 +42,14 @@ use Rattle.mc_app.proofs.Asked.{no_demo_analysis, no_demo_check, no_demo_run}
 module _ (flow : Flow) (defs : List Def) (f : Findings) (v : Verdict) (said : IsVerdictOn flow defs f.document.items v) where
   pub safe_is_seen : IsProved flow defs false f → IsSeenOf flow defs (Judged v)
   safe_is_seen proved =
-      let certificate : IsCertificate flow defs f.document.items = record { lines = proved.lines; spelled = proved.spelled; valid = proved.valid } in
+      let certificate : IsCertificate flow defs f.document.items = record { lines = proved.lines; spelled = proved.spelled; holds = proved.valid } in
       let safe : v ≡ verdict.Safe = said.0.safe.1 certificate in
       subst (λ (x : Verdict). IsSeenOf flow defs (Judged x)) (sym safe) (f, proved, subst (λ (x : Verdict). IsVerdictOn flow defs f.document.items x) safe said)
 
-  pub alarms_are_seen : (count : ℕ) → HasAlarms flow defs false f count → IsSeenOf flow defs (Judged v)
-  alarms_are_seen count found =
-      let chain : IsChain flow defs f.document.items found.stuck = record { lines = found.lines; spelled = found.spelled; short = found.chain } in
-      let alarms : v ≡ verdict.Alarms count = (said.0.alarms count).1 (found.stuck, chain, found.counted, found.some) in
+  pub alarms_are_seen : LoresAreThere → ShortChainsAreLegal → IsValid flow defs → (count : ℕ) → HasAlarms flow defs false f count → IsSeenOf flow defs (Judged v)
+  alarms_are_seen there legal valid count found =
+      let known = there flow defs valid in
+      let alarms : v ≡ verdict.Alarms count = alarms_said flow defs known.0.lines.know known.1.knows legal false f count v found said.0 in
       subst (λ (x : Verdict). IsSeenOf flow defs (Judged x)) (sym alarms) (f, found, subst (λ (x : Verdict). IsVerdictOn flow defs f.document.items x) alarms said)
 
 pub at_safe : (flow : Flow) (defs : List Def) (found : Analysis) (f : Findings) → found ≡ analysis.Safe f → IsAnalysis flow defs false found → IsProved flow defs false f

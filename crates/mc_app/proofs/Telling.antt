@@ -2,8 +2,8 @@
 use Rattle.std.proofs.Common.{◌≡◌, ◌∙◌, ◌<◌, ℕ, Bool, List, Option, Some, codes, inl, inr, refl, ap, subst, length, arith}
 use Rattle.std.specs.Prelude.{Ok}
 use Rattle.mc_c_syntax.specs.Ast.Trees.{UnitTree}
-use Rattle.mc_document.specs.declared.judge.verdict.Refusal.TheVariants.{EndsEarly}
-use Rattle.mc_document.specs.declared.judge.verdict.Verdict.TheVariants.{Safe, Alarms, Refused as Mistaken}
+use Rattle.mc_judge.specs.declared.judge.verdict.Refusal.TheVariants.{EndsEarly}
+use Rattle.mc_judge.specs.declared.judge.verdict.Verdict.TheVariants.{Safe, Alarms, Refused as Mistaken}
 use Rattle.mc_find.specs.declared.analysis.analysis.Analysis.TheVariants as analysis
 use Rattle.mc_find.specs.declared.analysis.analysis.Findings.{Findings}
 use Rattle.mc_flow.specs.declared.defs.rules.Def.{Def}
@@ -158,9 +158,9 @@ alarms_tell holds words (Checked (Judged (Alarms count))) old new why adds e (re
       read.1,
       λ document told.
           let said = judged.told document (ap holds document_is ∙ told) in
-          let found = (said.0.0.alarms count).0 refl in
           let chain = said.1 in
-          (judged.flow, chain.0, chain.1, told_by d.start.now c.start.now unit defs judged.flow chain.0 count same.start judged.graph chain.2 found.3 chain.3),
+          let found = (said.0.0.alarms chain.1.known.0 count chain.1.known.1).0 refl in
+          (judged.flow, chain.0, chain.1, told_by d.start.now c.start.now unit defs judged.flow chain.0 count same.start judged.graph chain.2 found.holds.3 chain.3),
     )
 alarms_tell holds words (Checked (Judged (Alarms count))) old new why adds e (request.Run r) asks wants text h definitions k = absurd wants
 alarms_tell holds words (Checked (Judged (Alarms count))) old new why adds e (request.Demo n) asks wants text h definitions k = absurd wants

@@ -1,7 +1,7 @@
 -- The document that an analysis has left, where it is checked.
 use Rattle.std.specs.Prelude.{◌≡◌, ◌⊎◌, List, Option, Some, Ok, ℕ, codes}
-use Rattle.mc_document.specs.declared.judge.verdict.Refusal.TheVariants.{EndsEarly}
-use Rattle.mc_document.specs.declared.judge.verdict.Verdict.TheVariants.{Refused}
+use Rattle.mc_judge.specs.declared.judge.verdict.Refusal.TheVariants.{EndsEarly}
+use Rattle.mc_judge.specs.declared.judge.verdict.Verdict.TheVariants.{Refused}
 use Rattle.mc_load.specs.Inputs.Inputs.{Holds}
 use Rattle.mc_outside.specs.Outside.{AddsIfTold}
 use Rattle.mc_app.specs.declared.words.words.Analyse.{Analyse}

@@ -8,7 +8,7 @@ use Rattle.mc_load.specs.declared.inputs.reading.Sources.{Sources}
 use Rattle.mc_load.specs.declared.inputs.refusal.Refusal.{Refusal}
 use Rattle.mc_load.specs.declared.inputs.refusal.Refusal.TheVariants as refusals
 use Rattle.mc_run.specs.declared.interpret.ending.Ending.TheVariants as ending
-use Rattle.mc_document.specs.declared.judge.verdict.Verdict.TheVariants.{Safe, Alarms, Refused as Mistaken}
+use Rattle.mc_judge.specs.declared.judge.verdict.Verdict.TheVariants.{Safe, Alarms, Refused as Mistaken}
 use Rattle.mc_outside.specs.declared.outside.FileFault.{FileFault}
 use Rattle.mc_outside.specs.Outside.{WhereTold, AddsIfTold, OthersStay, Stays}
 use Rattle.mc_find.specs.declared.analysis.analysis.Analysis.TheVariants as analysis

@@ -8,9 +8,8 @@ use Rattle.mc_flow.specs.Valid.{IsValid}
 use Rattle.mc_load.specs.Inputs.Inputs.{Holds}
 use Rattle.mc_load.specs.declared.inputs.reading.Sources.{Sources}
 use Rattle.mc_load.specs.Inputs.Texts.{AreDefinitions, IsProgramHere}
-use Rattle.mc_document.specs.Judge.Verdicts.{IsChain}
-use Rattle.mc_document.specs.declared.judge.verdict.Verdict.{Verdict}
-use Rattle.mc_document.specs.declared.judge.verdict.Verdict.TheVariants.{Safe, Alarms, Refused}
+use Rattle.mc_judge.specs.declared.judge.verdict.Verdict.{Verdict}
+use Rattle.mc_judge.specs.declared.judge.verdict.Verdict.TheVariants.{Safe, Alarms, Refused}
 use Rattle.mc_kernel.specs.Branches.{Path}
 use Rattle.mc_load.specs.Lowered.Graphs.{IsGraphOf, IsLong}
 use Rattle.mc_semantics.specs.Steps.{IsSafeProgram, program_of}
@@ -19,7 +18,7 @@ use Rattle.mc_app.specs.declared.words.words.Check.{Check}
 use Rattle.mc_app.specs.declared.checking.Checked.{Checked}
 use Rattle.mc_app.specs.declared.checking.Checked.TheVariants.{TooLong, Judged}
 use Rattle.mc_app.specs.Blocked.{FaultsComeBy}
-use Rattle.mc_app.specs.Documents.{IsVerdictOn}
+use Rattle.mc_app.specs.Documents.{IsFinalChain, IsVerdictOn}
 
 -- ---- safety
 
@@ -42,11 +41,11 @@ IsSafeWhereTold holds s =
 -- ---- causes
 
 -- what a verdict on a document of this flow graph of the program means for its runs: none has a fault; or each that has one comes
--- by one of so many blocked branches of the document
+-- by one of so many blocked branches of the document, a final legal chain
 abbrev pub MeansForRuns : (start : List ℕ) → UnitTree → List Def → Flow → (document : List ℕ) → Verdict → Type 0
 MeansForRuns start unit defs flow document Safe = IsSafeUnit start unit defs
 MeansForRuns start unit defs flow document (Alarms count) =
-    (stuck : List Path) × IsChain flow defs document stuck × (count ≡ length stuck) × FaultsComeBy start unit defs flow stuck
+    (stuck : List Path) × IsFinalChain flow defs document stuck × (count ≡ length stuck) × FaultsComeBy start unit defs flow stuck
 MeansForRuns start unit defs flow document (Refused cause) = Unit {0}
 
 -- this is the verdict on the document for a flow graph of the program with its definitions, and what it means

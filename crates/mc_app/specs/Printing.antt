@@ -8,10 +8,10 @@ use Rattle.mc_lines.specs.declared.cert.fault.LineFault.TheVariants as line_faul
 use Rattle.mc_load.specs.Inputs.Printing.{refusal_text}
 use Rattle.mc_run.specs.declared.interpret.ending.Ending.{Ending}
 use Rattle.mc_run.specs.declared.interpret.ending.Ending.TheVariants as ending
-use Rattle.mc_document.specs.declared.judge.verdict.Refusal.{Refusal as Mistake}
-use Rattle.mc_document.specs.declared.judge.verdict.Refusal.TheVariants as mistake
-use Rattle.mc_document.specs.declared.judge.verdict.Verdict.{Verdict}
-use Rattle.mc_document.specs.declared.judge.verdict.Verdict.TheVariants as verdict
+use Rattle.mc_judge.specs.declared.judge.verdict.Refusal.{Refusal as Mistake}
+use Rattle.mc_judge.specs.declared.judge.verdict.Refusal.TheVariants as mistake
+use Rattle.mc_judge.specs.declared.judge.verdict.Verdict.{Verdict}
+use Rattle.mc_judge.specs.declared.judge.verdict.Verdict.TheVariants as verdict
 use Rattle.mc_base.specs.Text.Places.{place_text}
 use Rattle.mc_find.specs.declared.analysis.analysis.Analysis.TheVariants as analysis
 use Rattle.mc_app.specs.declared.analysing.Analysed.{Analysed as Results}
@@ -41,6 +41,7 @@ mistake_text (mistake.Rule number name premise) = line_text number ++ name.now +
 mistake_text (mistake.AfterEnd number) = line_text number ++ codes "after the end"
 mistake_text mistake.EndsEarly = codes "ends early"
 mistake_text mistake.NoAlarm = codes "no alarm"
+mistake_text mistake.Unfinished = codes "unfinished"
 
 -- the verdict on a document
 abbrev pub verdict_text : Verdict → List ℕ

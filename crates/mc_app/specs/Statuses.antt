@@ -1,7 +1,6 @@
 -- What a call's status means where its words give a command.
 use Rattle.std.specs.Prelude.{◌≡◌, ◌<◌, ◌⊎◌, ℕ, false, List, Option, Some, Ok, length, map}
 use Rattle.mc_c_syntax.specs.Ast.Trees.{UnitTree}
-use Rattle.mc_document.specs.Judge.Verdicts.{IsChain}
 use Rattle.mc_exact.specs.Marks.{Alarm as MarkedAlarm}
 use Rattle.mc_find.specs.Analysis.Findings.{HasTooManyPaths}
 use Rattle.mc_flow.specs.declared.defs.rules.Def.{Def}
@@ -26,6 +25,7 @@ use Rattle.mc_app.specs.Analyses.{IsWhyAnalysed}
 use Rattle.mc_app.specs.Answers.{AsksForSafety, analysed_status, checked_status, ran_status, sources_of}
 use Rattle.mc_app.specs.Blocked.{FaultsComeBy}
 use Rattle.mc_app.specs.Checks.{IsSafeUnit, IsWhyChecked}
+use Rattle.mc_app.specs.Documents.{IsFinalChain}
 use Rattle.mc_app.specs.Real.{AreReal, IsClosedUnit}
 use Rattle.mc_app.specs.Runs.{IsWhyRan}
 use Rattle.mc_app.specs.Tried.{IsShown}
@@ -44,7 +44,7 @@ pub record TellsFaults (start : List ℕ) (unit : UnitTree) (defs : List Def) (s
 abbrev pub AlarmsMean : Holds → (old new : Option (List ℕ)) → UnitTree → List Def → Request → Type 0
 AlarmsMean holds old new unit defs (request.Check c) =
     WhereTold (holds c.document.now)
-    (λ document. (flow : Flow) × (stuck : List Path) × IsChain flow defs document stuck × TellsFaults c.start.now unit defs stuck flow)
+    (λ document. (flow : Flow) × (stuck : List Path) × IsFinalChain flow defs document stuck × TellsFaults c.start.now unit defs stuck flow)
 AlarmsMean holds old new unit defs (request.Run r) = Unit {0}
 AlarmsMean holds old new unit defs (request.Demo n) = Unit {0}
 AlarmsMean holds old new unit defs (request.Analyse a) =

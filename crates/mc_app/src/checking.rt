@@ -13,7 +13,7 @@ use crate::documents::verdict_in;
 use crate::words::Check;
 use mc_c_check::Bound;
 use mc_c_grammar::places::ascending_places_differ;
-use mc_document::judge::Verdict;
+use mc_judge::judge::Verdict;
 use mc_load::inputs::{Sources, read};
 use mc_load::lowered::graph;
 use mc_load::read::programs_have_distinct_places;

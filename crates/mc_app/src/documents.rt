@@ -2,14 +2,14 @@
 ghost use Rattle.std.specs.Prelude.{◌≡◌, ◌≤◌, ◌<◌, ◌-◌, ◌+◌, [], ℕ, List, length, take, drop, IfOk, OnOk};
 ghost use Rattle.mc_flow.specs.Steps.{IsSafeFlow};
 ghost use Rattle.mc_flow.specs.Valid.{IsValid};
-ghost use Rattle.mc_document.specs.Judge.Stages.{Hears, StaysFor};
+ghost use Rattle.mc_judge.specs.Judge.Stages.{Hears, StaysFor};
 ghost use Rattle.mc_outside.specs.Outside.{HasCause, Stays, WhereTold};
 ghost use Rattle.mc_app.specs.Documents.{AlarmsAreFound, IsHeard, IsVerdictOn};
 
-use mc_document::judge::{Judge, Verdict};
 use mc_flow::{Defs, Flow};
-use mc_kernel::oracle::judges_are_there;
-use mc_kernel::{certificates_are_safe, last_pass_finds_faults};
+use mc_joins::chains::{chain_judges_agree, final_chains_find_faults, lores_are_there};
+use mc_judge::judge::{Judge, Verdict};
+use mc_kernel::certificates_are_safe;
 use mc_load::inputs::{PIECE, buffer};
 use mc_outside::{FileFault, Files};
 use std::alloc::{AllocError, Global};
@@ -84,10 +84,12 @@ pub fn verdict_in<F: Files>(
     ensures same { Stays (F.holds files.old) (F.holds files.new) }
     ensures cause { HasCause (F.faults files.old) (F.faults files.new) result }
 {
-    // For the proof alone: there is a right judge, valid certificates mean that nothing fails, and chains tell what may.
+    // For the proof alone: there is a right judge, and what is a legal chain is one for all; valid certificates mean that nothing
+    // fails, and final chains tell what may.
     certificates_are_safe();
-    last_pass_finds_faults();
-    judges_are_there();
+    final_chains_find_faults();
+    chain_judges_agree();
+    lores_are_there();
     let size = files.size(name)?;
     let mut buf = buffer(alloc, PIECE)?;
     let mut judge = Judge::new(alloc, flow, defs);
@@ -107,7 +109,7 @@ pub fn verdict_on(
     ensures { IfOk result (IsVerdictOn flow.now defs.now document.now) }
 {
     // For the proof alone: there is a right judge.
-    judges_are_there();
+    lores_are_there();
     let mut judge = Judge::new(alloc, flow, defs);
     judge.feed(document)?;
     let verdict = judge.finish()?;

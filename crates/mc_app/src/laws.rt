@@ -9,8 +9,8 @@ ghost use Rattle.mc_app.specs.declared.answer.Status.{Status};
 ghost use Rattle.mc_load.specs.Inputs.Inputs.{Holds};
 
 use mc_def_read::texts_are_read_once as definitions_are_read_once;
-use mc_document::laws::open_documents_end_early;
-use mc_kernel::oracle::judges_are_there;
+use mc_joins::chains::{lores_are_there, short_chains_are_legal};
+use mc_judge::laws::open_documents_end_early;
 use mc_load::read::{programs_are_not_refused, texts_are_read_once};
 use mc_lower_laws::closed::closed_programs_ask_for_malloc_alone;
 use mc_lower_laws::single::flow_graphs_are_one;
@@ -24,7 +24,8 @@ pub fn documents_are_judged_alike()
     programs_are_not_refused();
     definitions_are_read_once();
     flow_graphs_are_one();
-    judges_are_there();
+    lores_are_there();
+    short_chains_are_legal();
     open_documents_end_early();
 }
 
@@ -37,7 +38,8 @@ pub fn answers_are_complete()
     programs_are_not_refused();
     definitions_are_read_once();
     flow_graphs_are_one();
-    judges_are_there();
+    lores_are_there();
+    short_chains_are_legal();
     open_documents_end_early();
 }
 

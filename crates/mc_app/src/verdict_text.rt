@@ -5,7 +5,7 @@ ghost use Rattle.mc_app.specs.Printing.{checked_text, line_text, line_fault_text
 
 use crate::checking::Checked;
 use mc_base::text::print_number;
-use mc_document::judge::{Refusal, Verdict};
+use mc_judge::judge::{Refusal, Verdict};
 use mc_lines::cert::LineFault;
 use std::alloc::{AllocError, Global};
 
@@ -61,6 +61,7 @@ fn print_mistake(alloc: Global, out: &mut Vec<u8>, refusal: &Refusal) -> Result<
         }
         Refusal::EndsEarly => out.extend_from_slice(b"ends early")?,
         Refusal::NoAlarm => out.extend_from_slice(b"no alarm")?,
+        Refusal::Unfinished => out.extend_from_slice(b"unfinished")?,
     }
     Ok(())
 }

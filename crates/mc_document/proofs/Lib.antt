@@ -1,4 +1,3 @@
 pub mod CertifiedLemmas
-pub mod JudgeLemmas
 pub mod ProofLemmas
 pub mod PlacesLemmas

@@ -3,6 +3,7 @@ pub mod Advanced
 pub mod Stages
 pub mod Last
 pub mod Roots
+pub mod Placed
 pub mod Ruling
 pub mod Heads
 pub mod Written

@@ -1,3 +1,3 @@
-pub mod Judge
 pub mod Proof
 pub mod Places
+pub mod Spelled

@@ -10,5 +10,7 @@ mod stage;
 
 pub use fault::{ApplyFault, Complete};
 pub use mc_check_line::Branch;
+pub use places::is_cut;
 pub use proof::Proof;
 pub use stack::Stack;
+pub use stage::{Stage, is_ruling};

@@ -1,7 +1,7 @@
 -- What is seen of a program that was made.
 use Rattle.std.specs.Prelude.{◌≡◌, ◌≤◌, ◌⊎◌, ℕ, false, List, codes, length}
 use Rattle.mc_c_syntax.specs.Ast.Trees.{UnitTree}
-use Rattle.mc_document.specs.declared.judge.verdict.Verdict.TheVariants as verdict
+use Rattle.mc_judge.specs.declared.judge.verdict.Verdict.TheVariants as verdict
 use Rattle.mc_find.specs.Analysis.Findings.{HasAlarms, HasTooManyPaths, IsAnalysis, IsProved}
 use Rattle.mc_find.specs.declared.analysis.analysis.Analysis.TheVariants as analysis
 use Rattle.mc_find.specs.declared.analysis.analysis.Findings.{Findings}
@@ -21,8 +21,8 @@ start = codes "main"
 
 -- ---- flow graphs
 
--- what is seen of a flow graph, whose states are not merged: that its analysis gave up, or came to its limit; or the verdict on the document that it wrote, which
--- is a certificate or a chain with alarms, and is never refused
+-- what is seen of a flow graph, whose states are not merged: that its analysis gave up, or came to its limit; or the verdict on the
+-- document that it wrote, which is a certificate or a chain with alarms, and is never refused
 abbrev pub IsSeenOf : Flow → List Def → Seen → Type 0
 IsSeenOf flow defs Unread = ⊥
 IsSeenOf flow defs NotYet = IsAnalysis flow defs false analysis.Unknown

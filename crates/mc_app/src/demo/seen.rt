@@ -8,10 +8,11 @@ ghost use Rattle.mc_app.specs.Demo.Seen.{IsSeen, IsSeenOf, IsSeenWith, start};
 
 use crate::documents::verdict_on;
 use mc_c_check::Bound;
-use mc_document::judge::Verdict;
 use mc_find::analysis::{Analysis, Settings, analyse};
 use mc_flow::{Defs, Flow};
 use mc_gen::definitions;
+use mc_joins::chains::{lores_are_there, short_chains_are_legal};
+use mc_judge::judge::Verdict;
 use mc_load::inputs::read_pair;
 use mc_load::lowered::graph;
 use std::alloc::{AllocError, Global};
@@ -86,6 +87,9 @@ fn of_flow(alloc: Global, flow: &Flow, defs: &Defs) -> Result<Seen, AllocError>
     requires { IsValid flow.now defs.now }
     ensures { IfOk result (IsSeenOf flow.now defs.now) }
 {
+    // For the proof alone: a chain of one pass is a final legal chain, and there is what tells so.
+    lores_are_there();
+    short_chains_are_legal();
     match analyse(alloc, flow, defs, SETTINGS)? {
         Analysis::Unknown => Ok(Seen::NotYet),
         Analysis::Paths(_) => Ok(Seen::Paths),

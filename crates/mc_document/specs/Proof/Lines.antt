@@ -111,6 +111,16 @@ ending_at q =
     (need 3 (has_no_branch (readied q q.stage).branches)
     (Ok (record (readied q q.stage) { stage = finished })))
 
+-- ---- changes of the states of cuts
+
+-- a pass begins: the branches of the entry and of the states of cuts as they are are open, and none is stuck
+abbrev pub reopened_at : Position → Position
+reopened_at q = record (ruled_at q (roots q.flow q.heads)) { stuck = 0 }
+
+-- the first branch ends, and the states of cuts become what they are by it
+abbrev pub ending_with : (Path → List Head) → Position → Judged Position
+ending_with heads q = have 1 (first_branch q.branches) (λ b. Ok (record q { heads = heads b.0; branches = b.1 }))
+
 -- ---- rule lines
 
 -- so many branches are stuck by a line

@@ -1,13 +1,14 @@
 // The open document.
-ghost use Rattle.std.specs.Prelude.{◌≡◌, ◌+◌, Bool, true, Err, IfOk, IfErr, OnOk, if◌then◌else◌, option_map};
+ghost use Rattle.std.specs.Prelude.{◌≡◌, ◌+◌, ◌<◌, ◌≤◌, Bool, true, Ok, Err, IfOk, IfErr, OnOk, if◌then◌else◌, insert, length, map, option_map, slice_set};
 ghost use Rattle.mc_flow.specs.Valid.{IsValid};
-ghost use Rattle.mc_check_line.specs.Judging.{path};
+ghost use Rattle.mc_check_line.specs.Judging.{head_of, path};
 ghost use Rattle.mc_kernel.specs.Branches.{roots as all_roots};
 ghost use Rattle.mc_kernel.specs.Judges.{Knowledge};
 ghost use Rattle.mc_kernel.specs.Readings.{begun, finished, first_branch, has_all_heads};
-ghost use Rattle.mc_document.specs.Proof.Lines.{AnswersAll, ComesTo, TellsFormed, cutting_at, ending_at, heading_at, is_ready_at, marks, may_head_at, may_pass_at, passing_at, rule_at, ruled_at, ruling_at};
+ghost use Rattle.mc_document.specs.Proof.Lines.{AnswersAll, ComesTo, TellsFormed, cutting_at, ending_at, ending_with, heading_at, is_ready_at, marks, may_head_at, may_pass_at, passing_at, reopened_at, rule_at, ruled_at, ruling_at};
 ghost use Rattle.mc_document.specs.declared.proof.fault.ApplyFault.TheVariants.{NoMemory};
 ghost use Rattle.mc_document.specs.Proof.Positions.{Applies, IsComplete, IsLost, Tries, position_of};
+ghost use Rattle.mc_document.specs.Proof.Stacks.{AreMade, HeadsAreMade, stage_of};
 ghost use Rattle.mc_state.specs.Fits.{IsWellMade};
 ghost use Rattle.mc_state.specs.RawStates.{state_of};
 ghost use Rattle.mc_state.specs.State.{State as Symbolic};
@@ -105,8 +106,64 @@ impl<'f> Proof<'f> {
         self.branches.top()
     }
 
+    /// Where what is read of it allocates.
+    pub fn alloc(&self) -> Global {
+        self.alloc
+    }
+
+    /// Its flow graph.
+    pub fn flow(&self) -> &'f Flow
+        ensures { result.now ≡ self.now.flow }
+    {
+        self.flow
+    }
+
+    /// Its definitions.
+    pub fn defs(&self) -> &'f Defs
+        ensures { result.now ≡ self.now.defs }
+    {
+        self.defs
+    }
+
+    /// How far it is read.
+    pub fn stage(&self) -> Stage
+        ensures { stage_of result ≡ self.now.stage }
+    {
+        self.stage
+    }
+
+    /// Its cuts.
+    pub fn cuts(&self) -> &[PointId]
+        ensures { result.now ≡ self.now.cuts }
+    {
+        self.cuts.as_slice()
+    }
+
+    /// The states of its cuts.
+    pub fn heads(&self) -> &[Head]
+        ensures { map head_of result.now ≡ self.now.heads }
+    {
+        self.heads.as_slice()
+    }
+
+    /// Whether it is lost, as there was no memory for a line.
+    pub fn is_lost(&self) -> bool
+        ensures { result ≡ self.now.lost }
+    {
+        self.lost
+    }
+
+    /// Its flow graph is valid, and the states of its cuts and of its open branches are well made.
+    pub fn is_held(&self)
+        ensures valid { IsValid self.now.flow self.now.defs }
+        ensures heads { HeadsAreMade self.now.flow self.now.defs self.now.heads }
+        ensures branches { AreMade self.now.flow self.now.defs self.now.branches }
+    {
+        let _kept = &self.stage;
+    }
+
     /// A cut: a Skip, after the cut before.
-    fn cut(&mut self, point: PointId) -> Result<(), ApplyFault>
+    pub fn cut(&mut self, point: PointId) -> Result<(), ApplyFault>
         ensures { ComesTo (cutting_at point self.old) self.old self.new result }
     {
         if !is_cutting(self.stage) {
@@ -123,7 +180,7 @@ impl<'f> Proof<'f> {
     }
 
     /// Whether every loop head is a cut.
-    fn has_all_heads(&self) -> bool
+    pub fn has_all_heads(&self) -> bool
         ensures { result ≡ has_all_heads self.now.flow self.now.cuts }
     {
         has_all_heads(self.flow, self.cuts.as_slice())
@@ -158,7 +215,7 @@ impl<'f> Proof<'f> {
     }
 
     /// A head: at a cut, not before the head before, with a well-formed state.
-    fn head(&mut self, point: PointId, raw: &RawState) -> Result<(), ApplyFault>
+    pub fn head(&mut self, point: PointId, raw: &RawState) -> Result<(), ApplyFault>
         ensures { (well : RawState → Bool) → TellsFormed well self.old.flow self.old.defs
             → ComesTo (heading_at well point raw.now self.old) self.old self.new result }
     {
@@ -203,6 +260,47 @@ impl<'f> Proof<'f> {
         Ok(())
     }
 
+    /// A pass begins: the branches of the entry and of the states of cuts as they are are open, and none is stuck.
+    pub fn reopen(&mut self) -> Result<(), ApplyFault>
+        ensures { ComesTo (Ok (reopened_at self.old)) self.old self.new result }
+    {
+        self.branches = roots(self.alloc, self.flow, self.heads.as_slice())?;
+        self.stage = Stage::Ruling;
+        self.stuck = 0;
+        Ok(())
+    }
+
+    /// The first branch ends, and its point gets this state too: in this place among the states of cuts, before the one
+    /// that had it.
+    pub fn put_head(&mut self, place: usize, state: State) -> Result<(), ApplyFault>
+        requires within { place ≤ length self.old.heads }
+        requires made { IsWellMade self.old.defs self.old.flow.vars self.old.flow.structs.list state }
+        ensures { ComesTo (ending_with (λ b. insert self.old.heads place (b.point, state)) self.old) self.old self.new result }
+    {
+        let Some(branch) = self.branches.top() else {
+            return Err(ApplyFault::Premise(1));
+        };
+        let point = branch.point;
+        self.heads.insert(place, Head { point, state })?;
+        self.branches.end_first();
+        Ok(())
+    }
+
+    /// The first branch ends, and its point gets this state instead of the one in this place among the states of cuts.
+    pub fn swap_head(&mut self, place: usize, state: State) -> Result<(), ApplyFault>
+        requires within { place < length self.old.heads }
+        requires made { IsWellMade self.old.defs self.old.flow.vars self.old.flow.structs.list state }
+        ensures { ComesTo (ending_with (λ b. slice_set self.old.heads place (b.point, state)) self.old) self.old self.new result }
+    {
+        let Some(branch) = self.branches.top() else {
+            return Err(ApplyFault::Premise(1));
+        };
+        let point = branch.point;
+        self.heads[place] = Head { point, state };
+        self.branches.end_first();
+        Ok(())
+    }
+
     /// Whether rule lines are read, or may begin.
     fn is_ready(&self) -> bool
         ensures { result ≡ is_ready_at self.now self.now.stage }
@@ -216,7 +314,7 @@ impl<'f> Proof<'f> {
     }
 
     /// The end: no branch is open.
-    fn end(&mut self) -> Result<(), ApplyFault>
+    pub fn end(&mut self) -> Result<(), ApplyFault>
         ensures { ComesTo (ending_at self.old) self.old self.new result }
     {
         if !self.is_ready() {
@@ -297,7 +395,7 @@ impl<'f> Proof<'f> {
     }
 
     /// The line of a rule.
-    fn rule(&mut self, line: &Line) -> Result<(), ApplyFault>
+    pub fn rule(&mut self, line: &Line) -> Result<(), ApplyFault>
         ensures { (k : Knowledge) → AnswersAll k self.old.flow self.old.defs
             → ComesTo (rule_at k line.now self.old) self.old self.new result }
     {
@@ -329,7 +427,7 @@ impl<'f> Proof<'f> {
     }
 
     /// Gives up the document, of which only the cuts and heads are kept.
-    fn lose(&mut self) -> Result<(), ApplyFault>
+    pub fn lose(&mut self) -> Result<(), ApplyFault>
         ensures lost { IsLost self.new }
         ensures fault { result ≡ Err NoMemory }
     {

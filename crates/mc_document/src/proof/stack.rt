@@ -1,5 +1,5 @@
 // Branches on a stack.
-ghost use Rattle.std.specs.Prelude.{◌≡◌, ◌∷◌, ◌++◌, [], MatchOption, OnOk, OnErr, map, option_map};
+ghost use Rattle.std.specs.Prelude.{◌≡◌, ◌∷◌, ◌++◌, [], MatchOption, OnOk, OnErr, drop, map, option_map};
 ghost use Rattle.mc_check_line.specs.Judging.{path, paths};
 ghost use Rattle.mc_kernel.specs.Readings.{first_branch, has_no_branch};
 
@@ -70,6 +70,13 @@ impl Stack {
         ensures { MatchOption result ((self.old ≡ []) × (self.new ≡ [])) (λ b. self.old ≡ path b ∷ self.new) }
     {
         self.items.pop()
+    }
+
+    /// The first branch ends, if there is one.
+    pub fn end_first(&mut self)
+        ensures { self.new ≡ drop 1 self.old }
+    {
+        let _ended = self.items.pop();
     }
 
     /// Puts a branch at the top. Without memory nothing changes.

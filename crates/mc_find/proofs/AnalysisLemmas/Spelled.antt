@@ -4,7 +4,7 @@ use Rattle.std.specs.List.{AllByRecursion}
 use Rattle.mc_lines.specs.declared.cert.line.Line.{Line}
 use Rattle.mc_lines.specs.Cert.Document.{Spells}
 use Rattle.mc_lines.specs.Cert.Lines.{lines_of}
-use Rattle.mc_document.specs.Judge.Verdicts.{SpellAll}
+use Rattle.mc_document.specs.Spelled.{SpellAll}
 use Rattle.mc_exact.specs.Marks.{Alarm, unmarked}
 use Rattle.mc_kernel.specs.Branches.{Path}
 use Rattle.mc_lines.specs.Written.Written.{IsWritten, line_text}

@@ -8,7 +8,7 @@ use Rattle.mc_flow.specs.declared.defs.rules.Def.{Def}
 use Rattle.mc_flow.specs.declared.graph.Flow.{Flow}
 use Rattle.mc_follow.specs.Alarms.Outcomes.{IsCrowded}
 use Rattle.mc_follow.specs.Alarms.Walks.{ended_by}
-use Rattle.mc_document.specs.Judge.Verdicts.{SpellAll}
+use Rattle.mc_document.specs.Spelled.{SpellAll}
 use Rattle.mc_document.specs.Places.{FitsSides, cuts_of}
 use Rattle.mc_state.specs.declared.line.Form.TheVariants as forms
 use Rattle.mc_state.specs.declared.line.Version.TheVariants.{One}

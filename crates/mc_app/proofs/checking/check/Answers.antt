@@ -5,7 +5,7 @@ use Rattle.mc_flow.specs.Steps.{IsSafeFlow}
 use Rattle.mc_flow.specs.Valid.{IsValid}
 use Rattle.mc_load.specs.Inputs.Texts.{IsWellFormed}
 use Rattle.mc_lower.specs.declared.lowering.Lowered.{Lowered}
-use Rattle.mc_document.specs.declared.judge.verdict.Verdict.TheVariants.{Safe}
+use Rattle.mc_judge.specs.declared.judge.verdict.Verdict.TheVariants.{Safe}
 use Rattle.mc_app.specs.Checks.{IsSafeUnit}
 use Rattle.mc_app.specs.Documents.{AlarmsAreFound, IsVerdictOn}
 use Rattle.mc_load.specs.Lowered.Graphs.{IsGraphOf}

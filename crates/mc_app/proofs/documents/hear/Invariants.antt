@@ -1,5 +1,5 @@
 use Rattle.std.proofs.Common.{◌≡◌, ◌≤◌, ◌-◌, ℕ, List, length, take}
-use Rattle.mc_document.specs.Judge.Stages.{StaysFor}
+use Rattle.mc_judge.specs.Judge.Stages.{StaysFor}
 use Rattle.mc_outside.specs.Outside.{Stays, WhereTold}
 use Rattle.mc_app.specs.Documents.{IsHeard}
 use Rattle.mc_app.proofs.documents.hear.Given as goal

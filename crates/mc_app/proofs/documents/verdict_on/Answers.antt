@@ -13,8 +13,8 @@ returns c =
     let heard = heard_more [] text old judge c.feed.ensures.same begun c.in_ok-feed.ensures.heard in
     let same_flow = c.feed.ensures.same.0 ∙ c.new-judge.ensures.flow in
     let same_defs = c.feed.ensures.same.1 ∙ c.new-judge.ensures.defs in
-    let known = c.judges_are_there.ensures flow defs c.requires in
+    let known = c.lores_are_there.ensures flow defs c.requires in
     let v = c.in_ok-verdict.verdict in (
-      told_verdict flow defs judge same_flow same_defs text heard v known.0 known.1 known.2 c.in_ok-verdict.ensures.tells,
+      told_verdict flow defs judge same_flow same_defs text heard v known.0 known.1 c.in_ok-verdict.ensures.tells,
       right_verdict flow defs judge same_flow same_defs text heard v c.in_ok-verdict.ensures.verdict,
     )

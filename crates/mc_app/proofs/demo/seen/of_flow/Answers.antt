@@ -19,4 +19,4 @@ returns c =
     let f = c.in-Alarms.findings in
     let v = c.in_ok-verdict-in-Alarms.verdict in
     let said = subst (λ (text : List ℕ). IsVerdictOn flow defs text v) c.deref-in-Alarms.ensures.value c.in_ok-verdict-in-Alarms.ensures in
-    alarms_are_seen flow defs f v said _ (at_alarms flow defs _ f _ c.in-Alarms.is c.in_ok-analyse.ensures)
+    alarms_are_seen flow defs f v said c.lores_are_there.ensures c.short_chains_are_legal.ensures.legal c.requires _ (at_alarms flow defs _ f _ c.in-Alarms.is c.in_ok-analyse.ensures)
