@@ -22,5 +22,4 @@ pub mod AlikeLemmas
 pub mod AnewLemmas
 pub mod AtomsLemmas
 pub mod ChainsLemmas
-pub mod RenameLemmas
 pub mod SameLemmas

@@ -7,6 +7,5 @@ pub mod Examples
 pub mod Alike
 pub mod Anew
 pub mod Chains
-pub mod Rename
 pub mod Same
 pub mod JointExamples

@@ -3,5 +3,4 @@
 mod edges;
 mod numbered;
 
-pub use edges::edge_of;
-pub use numbered::{Renewed, anew, put_vars, put_whole};
+pub use numbered::{Renewed, anew, put_whole};

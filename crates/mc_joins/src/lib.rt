@@ -1,8 +1,8 @@
-//! Joins of two states, states equal up to renaming, and chains of several passes, as definitions with their laws, and
-//! the first code over them. A join of states that are not false has exactly one result once no step is left: its atoms
-//! are the canonical list of what the joint atoms entail.
+//! Joins of two states, states equal up to renaming, and chains of several passes, as definitions with their laws. A join of
+//! states that are not false has exactly one result once no step is left: its atoms are the canonical list of what the joint
+//! atoms entail. In code: whether a state is tidy, whether two are the same, and a state numbered anew.
 //!
-//! Stands on `mc_kernel`; called by no crate of the program yet.
+//! Stands on `mc_kernel`; called by `mc_replay`, `mc_judge` and `mc_app`.
 #![tactic(auto)]
 
 pub mod alike;
@@ -10,7 +10,6 @@ pub mod anew;
 pub mod chains;
 mod examples;
 mod laws;
-pub mod rename;
 pub mod same;
 
 pub use examples::{

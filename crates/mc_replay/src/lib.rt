@@ -1,6 +1,6 @@
 //! Joins replayed: the steps of a join applied one after the other to two states.
 //!
-//! Stands on `mc_joins`, `mc_apply_fold` and `mc_find_view`; called by no crate of the program yet.
+//! Stands on `mc_joins`, `mc_apply_fold` and `mc_find_view`; called by `mc_judge`.
 //!
 //! - `pairs`, `edges`, `forms`, `made`, `joining`: pairs, the edges that count at them, the edges of the result, each as
 //!   `mc_joins` defines it.

@@ -48,7 +48,7 @@ fn nodes_anew(alloc: Global, state: &State) -> Result<Renewed, NoMemory>
 }
 
 /// Gives the variables the images of nodes.
-pub fn put_vars(fresh: &mut State, env: &[Option<NodeId>], renaming: &Renaming)
+fn put_vars(fresh: &mut State, env: &[Option<NodeId>], renaming: &Renaming)
     requires long { length fresh.old.env ≡ length env.now }
     requires there { AreNodes fresh.old.kinds (map (moved (image renaming.now)) (known_nodes env.now)) }
     ensures { fresh.new ≡ record fresh.old { env = map (option_map (moved (image renaming.now))) env.now } }

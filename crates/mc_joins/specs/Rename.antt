@@ -1,3 +1,0 @@
-pub mod Reaches
-pub mod Found
-pub mod Renamed
