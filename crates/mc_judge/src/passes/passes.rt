@@ -166,17 +166,23 @@ impl<'f> Passes<'f> {
         let Some(branch) = self.changer() else {
             return Err(ApplyFault::Premise(1));
         };
+        // For the proof alone: the states of a document are well made.
+        self.proof.is_held();
         if branch.state.is_false() {
             return Err(ApplyFault::Premise(2));
         }
-        // For the proof alone: the states of a document are well made.
-        self.proof.is_held();
         let lefts = states_at(self.proof.alloc(), self.proof.heads(), branch.point)?;
         Ok((branch, lefts))
     }
 
-    /// What C2 puts among the states of cuts, and in which place.
-    fn opened(&self, tries: &Items<Items<JoinStep>>) -> Result<(usize, State), ApplyFault>
+    /// What C2 puts among the states of cuts at a branch that may change them, and in which place.
+    fn opened_at(
+        &self,
+        branch: &Branch,
+        lefts: &[&State],
+        tries: &Items<Items<JoinStep>>,
+    ) -> Result<(usize, State), ApplyFault>
+        requires { IsReady self.now (path branch.now) (states_held lefts.now) }
         ensures put { IsPut insert (λ k. opening_at k tries.now self.now) self.now result }
         ensures within { IfOk result (λ found. found.0 ≤ length self.now.proof.heads) }
         ensures made { IfOk result (λ found. Made self.now.proof.flow self.now.proof.defs found.1) }
@@ -186,16 +192,28 @@ impl<'f> Passes<'f> {
         lores_are_there();
         numbering_makes_well();
         self.proof.is_held();
-        let (branch, lefts) = self.ready()?;
         match opened(
             self.proof.alloc(),
             self.proof.defs(),
-            lefts.as_slice(),
+            lefts,
             &branch.state,
             tries.as_slice(),
         )? {
             Ok(state) => Ok((place_at(self.proof.heads(), branch.point), state)),
             Err(premise) => Err(ApplyFault::Premise(premise)),
+        }
+    }
+
+    /// What C2 puts among the states of cuts, and in which place.
+    fn opened(&self, tries: &Items<Items<JoinStep>>) -> Result<(usize, State), ApplyFault>
+        ensures put { IsPut insert (λ k. opening_at k tries.now self.now) self.now result }
+        ensures within { IfOk result (λ found. found.0 ≤ length self.now.proof.heads) }
+        ensures made { IfOk result (λ found. Made self.now.proof.flow self.now.proof.defs found.1) }
+    {
+        changes_are_parted();
+        match self.ready() {
+            Ok((branch, lefts)) => self.opened_at(branch, lefts.as_slice(), tries),
+            Err(fault) => Err(fault),
         }
     }
 
@@ -209,8 +227,15 @@ impl<'f> Passes<'f> {
         Ok(())
     }
 
-    /// What C3 puts among the states of cuts, and in which place.
-    fn rejoined(&self, number: u64, steps: &Items<JoinStep>) -> Result<(usize, State), ApplyFault>
+    /// What C3 puts among the states of cuts at a branch that may change them, and in which place.
+    fn rejoined_at(
+        &self,
+        branch: &Branch,
+        lefts: &[&State],
+        number: u64,
+        steps: &Items<JoinStep>,
+    ) -> Result<(usize, State), ApplyFault>
+        requires { IsReady self.now (path branch.now) (states_held lefts.now) }
         ensures put { IsPut slice_set (λ k. joining_at k number steps.now self.now) self.now result }
         ensures within { IfOk result (λ found. found.0 < length self.now.proof.heads) }
         ensures made { IfOk result (λ found. Made self.now.proof.flow self.now.proof.defs found.1) }
@@ -220,14 +245,13 @@ impl<'f> Passes<'f> {
         lores_are_there();
         joins_make_well();
         self.proof.is_held();
-        let (branch, lefts) = self.ready()?;
         let Some(place) = place_for(self.proof.heads(), branch.point, number) else {
             return Err(ApplyFault::Premise(3));
         };
         match rejoined(
             self.proof.alloc(),
             self.proof.defs(),
-            lefts.as_slice(),
+            lefts,
             &branch.state,
             number,
             steps.as_slice(),
@@ -236,6 +260,19 @@ impl<'f> Passes<'f> {
         )? {
             Ok(state) => Ok((place, state)),
             Err(premise) => Err(ApplyFault::Premise(premise)),
+        }
+    }
+
+    /// What C3 puts among the states of cuts, and in which place.
+    fn rejoined(&self, number: u64, steps: &Items<JoinStep>) -> Result<(usize, State), ApplyFault>
+        ensures put { IsPut slice_set (λ k. joining_at k number steps.now self.now) self.now result }
+        ensures within { IfOk result (λ found. found.0 < length self.now.proof.heads) }
+        ensures made { IfOk result (λ found. Made self.now.proof.flow self.now.proof.defs found.1) }
+    {
+        changes_are_parted();
+        match self.ready() {
+            Ok((branch, lefts)) => self.rejoined_at(branch, lefts.as_slice(), number, steps),
+            Err(fault) => Err(fault),
         }
     }
 
