@@ -1,0 +1,2 @@
+-- A chain is read where it stands.
+use Rattle.std.proofs.Common.{refl}
