@@ -56,12 +56,18 @@ impl<'f> OpenDocument<'f> {
     pub fn apply(&mut self, line: &Line) -> Result<(), ApplyFault>
         ensures { Takes line.now self.old self.new result }
     {
-        // For the proof alone: a document is kept line by line.
+        // For the proof alone: a document of a valid flow graph is kept line by line.
         mc_kernel::reading::lines_are_read();
         mc_joins::chains::lines_are_read();
         match self {
-            OpenDocument::Certificate(proof) => proof.apply(line),
-            OpenDocument::Chain(passes) => passes.apply(line),
+            OpenDocument::Certificate(proof) => {
+                proof.is_held();
+                proof.apply(line)
+            }
+            OpenDocument::Chain(passes) => {
+                passes.is_held();
+                passes.apply(line)
+            }
         }
     }
 

@@ -67,6 +67,13 @@ impl<'f> Passes<'f> {
         }
     }
 
+    /// Its flow graph is valid.
+    pub fn is_held(&self)
+        ensures { IsValid self.now.proof.flow self.now.proof.defs }
+    {
+        self.proof.is_held();
+    }
+
     /// Applies a line. A refused line changes nothing. Without memory the chain is lost: no branch is open any more, and
     /// every later line finds no memory either.
     pub fn apply(&mut self, line: &Line) -> Result<(), ApplyFault>
