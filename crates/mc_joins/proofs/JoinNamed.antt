@@ -1,5 +1,5 @@
 -- Each node that a whole join makes stands in a variable or in an edge.
-use Rattle.std.proofs.Common.{◌≡◌, ◌⊎◌, inl, inr, ◌<◌, ◌+◌, ℕ, ℤ, zero, suc, List, [], ◌∷◌, ◌++◌, Bool, true, false, Option, Some, None, length, get_or, map, slice_get, refl, ap, sym, ◌∙◌, subst, arith, eqb-true}
+use Rattle.std.proofs.Common.{◌≡◌, ◌⊎◌, inl, inr, ◌+◌, ℕ, zero, suc, List, [], ◌∷◌, ◌++◌, Bool, true, false, Option, Some, None, length, slice_get, refl, ap, sym, ◌∙◌, subst, arith, eqb-true}
 use Rattle.std.specs.Prelude.{◌==◌, Contains, option_map, option_to_list, zip, if◌then◌else◌}
 use Rattle.std.specs.List.{list_any}
 use Rattle.mc_base.specs.declared.ids.EdgeId.{EdgeId}
@@ -12,14 +12,12 @@ use Rattle.mc_flow.specs.declared.defs.shapes.StructInfo.{StructInfo}
 use Rattle.mc_state.specs.declared.graph.edge.Edge.{Edge}
 use Rattle.mc_state.specs.declared.graph.edge.Edge.TheVariants.{Block, Ind, Seg}
 use Rattle.mc_state.specs.Graph.Edges.{known_nodes, nodes_of}
-use Rattle.mc_state.specs.Graph.Graph.{Graph, numbered}
+use Rattle.mc_state.specs.Graph.Graph.{numbered}
 use Rattle.mc_pure_ops.specs.Join.Joint.{Pairs}
 use Rattle.mc_pure.specs.Pure.{Kinds, kind_of}
-use Rattle.mc_state.specs.Facts.{IsUnnamed}
 use Rattle.mc_state.specs.Known.{Test}
 use Rattle.mc_state.specs.Told.{KindIsTold}
 use Rattle.mc_state.specs.declared.line.JoinStep.{JoinStep}
-use Rattle.mc_state.specs.Fits.{IsWellMade}
 use Rattle.mc_state.specs.Laws.{NewNodesHaveKinds}
 use Rattle.mc_state.specs.State.{State}
 use Rattle.mc_rules_logic.specs.Fold.JudgedLaws.{SpareIsJudged}
@@ -28,9 +26,9 @@ use Rattle.mc_joins.specs.Alike.Named.{AllNamed}
 use Rattle.mc_joins.specs.Joinings.{Joining, Pair, same_pair, with_pair, with_pairs, known_both, begun}
 use Rattle.mc_joins.specs.Laws.{KnowsMade, JoinsNameAll}
 use Rattle.mc_joins.specs.Parts.{Basis, Part}
-use Rattle.mc_joins.specs.Steps.{pairs_of, node_for, nodes_for, known_for, edge_for, joined, closing, after_step, after_steps}
+use Rattle.mc_joins.specs.Steps.{pairs_of, node_for, nodes_for, known_for, edge_for, joined, after_step, after_steps}
 use Rattle.mc_joins.specs.Whole.{kind_of_pair, kinds_from, kinds_of_pairs}
-use Rattle.mc_joins.proofs.JoinMade.{Inv, Stepped, has_listed, has_place, begun_inv, step_inv, taken}
+use Rattle.mc_joins.proofs.JoinMade.{Inv, has_listed, has_place, begun_inv, step_inv, taken}
 use Rattle.mc_joins.proofs.JointKinds.{Listed}
 use Rattle.mc_joins.proofs.JointStands.{node_place}
 use Rattle.mc_joins.proofs.Members.{Has, has_left, has_right, has_map}

@@ -6,9 +6,9 @@ mod Counter
 mod Keeping
 mod Steady
 mod NamedKinds
-mod JointKinds
+pub mod JointKinds
 mod JointEdges
-mod JoinMade
+pub mod JoinMade
 mod Regions
 mod NamedStand
 mod JointStands

@@ -1,4 +1,5 @@
-//! What joins ask of whole states: whether two are the same under a renaming of their nodes, and whether one is tidy.
+//! What joins ask of whole states: whether two are the same under a renaming of their nodes, a given one or any, and whether
+//! one is tidy.
 
 ghost use Rattle.std.specs.Prelude.{◌≡◌, ◌↔◌, IsTrue};
 ghost use Rattle.mc_pure_ops.specs.Renaming.Images.{image};

@@ -1,6 +1,8 @@
 pub mod Cutting
 pub mod Entries
 pub mod Documents
+pub mod Reads
+pub mod Opened
 pub mod Growing
 pub mod Standing
 pub mod Telling

@@ -1,4 +1,9 @@
 pub mod Finding
 pub mod NamedLemmas
 pub mod Pairing
+pub mod StepLists
+pub mod FoldLemmas
+pub mod StepLemmas
+pub mod WholeLemmas
+pub mod ReplayLemmas
 pub mod ChangesLemmas

@@ -1,5 +1,5 @@
 -- What the lines that change the states of a cut give, after their first two premises.
-use Rattle.std.specs.Prelude.{◌≡◌, ◌==◌, ◌&&◌, not, ℕ, ℤ, List, [], ◌∷◌, Option, Some, None, Result, Ok, length, map, slice_get}
+use Rattle.std.specs.Prelude.{◌≡◌, ◌==◌, ◌&&◌, not, ℕ, ℤ, List, ◌∷◌, Option, Some, None, Result, Ok, length, map, slice_get}
 use Rattle.std.specs.List.{AllByRecursion, list_all}
 use denote.Bor.{Bor}
 use Rattle.mc_base.specs.declared.plain.VarInfo.{VarInfo}
@@ -19,7 +19,7 @@ use Rattle.mc_joins.specs.Chains.Judges.{Lore, basis, may_change, whole_join, ge
 use Rattle.mc_joins.specs.Chains.Laws.{Made, IsRight}
 use Rattle.mc_joins.specs.Chains.Opened.{with_state_at, with_state_for}
 use Rattle.mc_joins.specs.Whole.{Joins}
-use Rattle.mc_replay.specs.Named.{TellsFrom}
+use Rattle.mc_replay.specs.Whole.{TellsOf}
 
 -- the states that references lead to
 abbrev pub states_held : List (Bor State) → List State
@@ -31,9 +31,13 @@ pub record AreMadeFor (defs : List Def) (states : List State) : Type 0 where
   pub structs : List StructInfo
   pub made : AllByRecursion (IsWellMade defs vars structs) states
 
--- it holds of all tests that tell what is entailed in these states, with these definitions
-abbrev pub ForTests : List Def → List State → (Basis → Type 0) → Type 0
-ForTests defs states P = (w : Basis) → w.defs ≡ defs → AllByRecursion (TellsFrom w) states → P w
+-- it holds of all tests that tell what is entailed in both states, with these definitions
+abbrev pub ForTestsOf : List Def → State → State → (Basis → Type 0) → Type 0
+ForTestsOf defs left right P = (w : Basis) → w.defs ≡ defs → TellsOf w left right → P w
+
+-- and in each of some states and one more
+abbrev pub ForTestsOfAll : List Def → List State → State → (Basis → Type 0) → Type 0
+ForTestsOfAll defs lefts own P = (w : Basis) → w.defs ≡ defs → AllByRecursion (λ left. TellsOf w left own) lefts → P w
 
 -- what a whole join gives, or the steps are none
 abbrev pub IsJoined : ℕ → List ℤ → State → State → List JoinStep → Option State → Basis → Type 0

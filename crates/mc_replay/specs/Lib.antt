@@ -4,5 +4,8 @@ pub mod Covers
 pub mod Joined
 pub mod Forms
 pub mod Good
+pub mod Folds
+pub mod Steps
+pub mod Whole
 pub mod Replayed
 pub mod Changes

@@ -1,10 +1,12 @@
 // The steps of a join, one after the other.
 ghost use Rattle.std.specs.Prelude.{◌≡◌, All, IfOk};
 ghost use Rattle.mc_base.specs.Ranges.Ends.{IsInt};
-ghost use Rattle.mc_replay.specs.Good.{AreGood};
 ghost use Rattle.mc_joins.specs.Parts.{Basis};
-ghost use Rattle.mc_replay.specs.Named.{IsGood, TellsFrom};
-ghost use Rattle.mc_replay.specs.Replayed.{IsReplayed};
+ghost use Rattle.mc_replay.specs.Good.{AreGood};
+ghost use Rattle.mc_replay.specs.Joined.{seen};
+ghost use Rattle.mc_replay.specs.Replayed.{IsAnswer, IsReplay};
+ghost use Rattle.mc_replay.specs.Steps.{ForTests};
+ghost use Rattle.mc_replay.specs.Whole.{IsReached, MayJoin, TellsOf};
 
 use crate::joining::{Joining, begin};
 use crate::pairs::Pair;
@@ -12,6 +14,7 @@ use crate::steps::{is_stuck, take_step};
 use crate::whole::joined_state;
 use mc_base::NoMemory;
 use mc_flow::defs::Defs;
+use mc_joins::made_are_told;
 use mc_state::JoinStep;
 use mc_symbolic::State;
 use std::alloc::Global;
@@ -30,17 +33,25 @@ pub enum Replayed {
 /// Where the join has come to its end what it gives, else whether it is stuck.
 fn answer(
     alloc: Global,
+    left: &State,
+    right: &State,
     join: Joining,
     defs: &Defs,
     round: u64,
     thresholds: &[i64],
 ) -> Result<Replayed, NoMemory>
     requires good { AreGood join }
+    requires reached { IsReached left.now right.now (seen join) }
     requires ints { All IsInt thresholds.now }
+    ensures { IfOk result (λ replayed. ForTests defs.now join (λ w.
+        IsAnswer w round thresholds.now left.now right.now (seen join) replayed)) }
 {
-    if join.next_pair().is_none() {
-        let state = joined_state(alloc, &join, round, thresholds)?;
-        return Ok(Replayed::Done(state));
+    match join.next_pair() {
+        Some(_) => {}
+        None => {
+            let state = joined_state(alloc, left, right, &join, round, thresholds)?;
+            return Ok(Replayed::Done(state));
+        }
     }
     let stuck = is_stuck(alloc, &join, defs)?;
     let Joining {
@@ -65,19 +76,17 @@ pub fn replay(
     round: u64,
     thresholds: &[i64],
 ) -> Result<Replayed, NoMemory>
-    requires left { IsGood left.now }
-    requires right { IsGood right.now }
+    requires states { MayJoin defs.now left.now right.now }
     requires ints { All IsInt thresholds.now }
-    ensures { IfOk result (λ answer. (w : Basis) → w.defs ≡ defs.now → TellsFrom w left.now → TellsFrom w right.now
-        → IsReplayed w round thresholds.now left.now right.now steps.now answer) }
+    ensures { IfOk result (λ replayed. (w : Basis) → w.defs ≡ defs.now → TellsOf w left.now right.now
+        → IsReplay w round thresholds.now left.now right.now steps.now replayed) }
 {
+    made_are_told();
     let mut join = begin(alloc, left, right)?;
-    let mut number: u64 = 1;
-    for step in steps {
+    for (place, step) in steps.iter().enumerate() {
         if !take_step(alloc, &mut join, defs, *step)? {
-            return Ok(Replayed::Wrong(number));
+            return Ok(Replayed::Wrong(place as u64 + 1));
         }
-        number = number.saturating_add(1);
     }
-    answer(alloc, join, defs, round, thresholds)
+    answer(alloc, left, right, join, defs, round, thresholds)
 }

@@ -1,14 +1,14 @@
 // What the lines that change the states of a cut give there. Whether such a line may stand at a branch, and that its state is not
 // false, is known before.
-ghost use Rattle.std.specs.Prelude.{◌≡◌, ◌↔◌, ◌∷◌, [], All, IfOk, IsTrue, length, slice_get};
+ghost use Rattle.std.specs.Prelude.{◌≡◌, ◌↔◌, ◌∷◌, All, IfOk, IsTrue, length, slice_get};
 ghost use Rattle.std.specs.Option.{option_copied};
 ghost use Rattle.std.specs.List.{AllByRecursion};
 ghost use Rattle.mc_base.specs.Ranges.Ends.{IsInt};
 ghost use Rattle.mc_state.specs.Facts.{IsTidy};
 ghost use Rattle.mc_state.specs.Lists.{all_both};
 ghost use Rattle.mc_joins.specs.Chains.Judges.{gets_stuck};
-ghost use Rattle.mc_replay.specs.Named.{IsGood};
-ghost use Rattle.mc_replay.specs.Changes.{states_held, AreMadeFor, ForTests, IsJoined, IsOpened, IsRejoined, OpeningIsParted, JoiningIsParted};
+ghost use Rattle.mc_replay.specs.Whole.{MayJoin};
+ghost use Rattle.mc_replay.specs.Changes.{states_held, AreMadeFor, ForTestsOf, ForTestsOfAll, IsJoined, IsOpened, IsRejoined, OpeningIsParted, JoiningIsParted};
 
 use crate::answers::{Replayed, replay};
 use mc_base::{Items, NoMemory};
@@ -46,9 +46,8 @@ fn gets_stuck(
     own: &State,
     steps: &[JoinStep],
 ) -> Result<bool, NoMemory>
-    requires left { IsGood left.now }
-    requires own { IsGood own.now }
-    ensures { IfOk result (λ stuck. ForTests defs.now (left.now ∷ own.now ∷ [])
+    requires { MayJoin defs.now left.now own.now }
+    ensures { IfOk result (λ stuck. ForTestsOf defs.now left.now own.now
         (λ w. stuck ≡ gets_stuck w own.now left.now steps.now)) }
 {
     match replay(alloc, defs, left, own, steps, 1, &[])? {
@@ -67,9 +66,8 @@ fn all_get_stuck(
     tries: &[Items<JoinStep>],
 ) -> Result<bool, NoMemory>
     requires long { length tries.now ≡ length lefts.now }
-    requires lefts { AllByRecursion IsGood (states_held lefts.now) }
-    requires own { IsGood own.now }
-    ensures { IfOk result (λ stuck. ForTests defs.now (own.now ∷ states_held lefts.now)
+    requires states { AllByRecursion (λ left. MayJoin defs.now left own.now) (states_held lefts.now) }
+    ensures { IfOk result (λ stuck. ForTestsOfAll defs.now (states_held lefts.now) own.now
         (λ w. stuck ≡ all_both (gets_stuck w own.now) (states_held lefts.now) tries.now)) }
 {
     for (i, left) in lefts.iter().enumerate() {
@@ -120,10 +118,9 @@ fn joined(
     round: u64,
     thresholds: &[i64],
 ) -> Result<Option<State>, NoMemory>
-    requires left { IsGood left.now }
-    requires own { IsGood own.now }
+    requires states { MayJoin defs.now left.now own.now }
     requires ints { All IsInt thresholds.now }
-    ensures { IfOk result (λ found. ForTests defs.now (left.now ∷ own.now ∷ [])
+    ensures { IfOk result (λ found. ForTestsOf defs.now left.now own.now
         (IsJoined round thresholds.now left.now own.now steps.now found)) }
 {
     match replay(alloc, defs, left, own, steps, round, thresholds)? {
@@ -151,21 +148,21 @@ pub fn rejoined(
     defs: &Defs,
     lefts: &[&State],
     own: &State,
-    j: u64,
+    number: u64,
     steps: &[JoinStep],
     round: u64,
     thresholds: &[i64],
 ) -> Result<Result<State, u8>, NoMemory>
     requires made { AreMadeFor defs.now (own.now ∷ states_held lefts.now) }
     requires ints { All IsInt thresholds.now }
-    ensures { IfOk result (IsRejoined defs.now round thresholds.now (states_held lefts.now) j steps.now own.now) }
+    ensures { IfOk result (IsRejoined defs.now round thresholds.now (states_held lefts.now) number steps.now own.now) }
 {
     // for the proof alone
     made_are_told();
     joins_name_all();
     joins_make_well();
     joins_are_determined();
-    let Some(left) = state_at(lefts, j) else {
+    let Some(left) = state_at(lefts, number) else {
         return Ok(Err(3));
     };
     if !is_tidy(alloc, own)? {

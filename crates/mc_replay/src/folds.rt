@@ -1,7 +1,15 @@
 // What a side gives to a step: an edge as it is, edges that are folded, or an empty segment.
-ghost use Rattle.std.specs.Prelude.{OnOk};
+ghost use Rattle.std.specs.Prelude.{◌≡◌, Some, None, IfOk, OnOk, is_some, option_map};
+ghost use Rattle.mc_state.specs.declared.graph.edge.Edge.TheVariants.{Seg};
+ghost use Rattle.mc_state.specs.Named.{IndParts};
+ghost use Rattle.mc_state.specs.Terms.{plain};
+ghost use Rattle.mc_joins.specs.Joinings.{Half as HalfSeen, across, half};
+ghost use Rattle.mc_joins.specs.Parts.{Basis, as_it_is, empty_seg, guessed, standing_args, nodes_of_args};
+ghost use Rattle.mc_replay.specs.Folds.{OnlyNames, seen_part, seen_ind, seen_seg, ind_with, seg_with, made_ind, made_seg};
+ghost use Rattle.mc_replay.specs.Folds.{ind_fold, guessed_ind_fold, ind_fold_for, seg_fold, standing_ends, partner_ends};
 ghost use Rattle.mc_replay.specs.Good.{AreGood};
-ghost use Rattle.mc_replay.specs.Named.{IsGood};
+ghost use Rattle.mc_replay.specs.Joined.{seen, seen_half};
+ghost use Rattle.mc_replay.specs.Named.{IsGood, TellsFrom, nodes_of_both, with_named};
 
 use crate::covers::{cover_edges, partner_or_terms, plain_all, seg_edges, standing_args};
 use crate::joining::{Half, Joining};
@@ -30,23 +38,40 @@ pub struct IndFold {
     pub used: Vec<EdgeId>,
 }
 
-/// Edges of a side that are folded into a Seg to a node: its arguments, those at its end, and the edges that it uses.
+/// Edges of a side that are folded into a Seg to a node: its arguments, where it ends, its arguments there, and the edges
+/// that it uses.
 #[derive(Drop)]
 pub struct SegFold {
     pub args: Vec<Term>,
-    pub end: NodeId,
+    pub stop: NodeId,
     pub ends: Vec<Term>,
     pub used: Vec<EdgeId>,
 }
 
 /// An edge as it is.
-pub fn as_it_is(alloc: Global, entry: &(EdgeId, Edge)) -> Result<Part, NoMemory> {
+pub fn as_it_is(alloc: Global, entry: &(EdgeId, Edge)) -> Result<Part, NoMemory>
+    ensures { IfOk result (λ part. (h : HalfSeen) → seen_part h.state part ≡ as_it_is h entry.now) }
+{
     let mut used = Vec::new(alloc);
     used.push(entry.0)?;
     Ok(Part {
         edge: entry.1.copy(alloc)?,
         used,
     })
+}
+
+/// The arguments of a side's least unused Ind or Seg of a predicate at a node, else zeros.
+fn standing(
+    alloc: Global,
+    half: &Half,
+    defs: &Defs,
+    pred: PredId,
+    at: NodeId,
+) -> Result<Vec<NodeId>, NoMemory>
+    ensures { IfOk result (λ nodes. (w : Basis) → w.defs ≡ defs.now → TellsFrom w half.now.state
+        → nodes.items ≡ standing_args w (seen_half half.now) pred at) }
+{
+    standing_args(alloc, &half.state, defs, half.used.as_slice(), pred, at)
 }
 
 /// An empty segment at a side's node, with the same arguments at both ends.
@@ -56,16 +81,14 @@ pub fn empty_seg(
     defs: &Defs,
     pred: PredId,
     at: NodeId,
-) -> Result<Part, NoMemory> {
-    let nodes = standing_args(alloc, &half.state, defs, half.used.as_slice(), pred, at)?;
+) -> Result<Part, NoMemory>
+    ensures { IfOk result (λ part. (w : Basis) → w.defs ≡ defs.now → TellsFrom w half.now.state
+        → seen_part half.now.state part ≡ empty_seg w (seen_half half.now) pred at) }
+{
+    let nodes = standing(alloc, half, defs, pred, at)?;
+    let edge = seg(alloc, at, nodes.as_slice(), pred, at, nodes.as_slice())?;
     Ok(Part {
-        edge: Edge::Seg {
-            at,
-            args: args_of(alloc, nodes.as_slice())?,
-            pred,
-            end: at,
-            end_args: args_of(alloc, nodes.as_slice())?,
-        },
+        edge,
         used: Vec::new(alloc),
     })
 }
@@ -77,7 +100,10 @@ fn guessed(
     defs: &Defs,
     pred: PredId,
     at: NodeId,
-) -> Result<Vec<Term>, NoMemory> {
+) -> Result<Vec<Term>, NoMemory>
+    ensures { IfOk result (λ terms. (w : Basis) → w.defs ≡ defs.now → TellsFrom w half.now.state
+        → terms.items ≡ guessed w (seen_half half.now) pred at None) }
+{
     guess(
         alloc,
         &half.state,
@@ -98,7 +124,10 @@ fn guessed_to(
     at: NodeId,
     end: NodeId,
     ends: &[Term],
-) -> Result<Vec<Term>, NoMemory> {
+) -> Result<Vec<Term>, NoMemory>
+    ensures { IfOk result (λ terms. (w : Basis) → w.defs ≡ defs.now → TellsFrom w half.now.state
+        → terms.items ≡ guessed w (seen_half half.now) pred at (Some (plain end, ends.now))) }
+{
     let stop = Some((plain(end), Items::of(Vec::from_slice(alloc, ends)?)));
     guess(
         alloc,
@@ -111,36 +140,34 @@ fn guessed_to(
     )
 }
 
-/// The edges of a side that make a predicate at a node, of those that are not blocked.
-fn cover_in(
-    alloc: Global,
-    half: &Half,
-    defs: &Defs,
-    blocked: &[EdgeId],
-    pred: PredId,
-    at: NodeId,
-    args: &[Term],
-) -> Result<Option<Vec<EdgeId>>, NoMemory>
-    requires { IsGood half.now.state }
+/// Edges that make an Ind, if there are any, with its arguments.
+fn ind_with(args: Vec<Term>, used: Option<Vec<EdgeId>>) -> Option<IndFold>
+    ensures { option_map seen_ind result ≡ option_map (ind_with args.items) (option_map (λ ids. ids.items) used) }
 {
-    cover_edges(alloc, &half.state, defs, blocked, pred, at, args)
+    match used {
+        Some(used) => Some(IndFold { args, used }),
+        None => None,
+    }
 }
 
-/// Those that make a segment of it from a node to another.
-fn seg_in(
-    alloc: Global,
-    half: &Half,
-    defs: &Defs,
-    blocked: &[EdgeId],
-    pred: PredId,
-    at: NodeId,
-    args: &[Term],
-    end: NodeId,
-    ends: &[Term],
-) -> Result<Option<Vec<EdgeId>>, NoMemory>
-    requires { IsGood half.now.state }
+/// Edges that make a Seg, if there are any, with its arguments, its end and its arguments there.
+fn seg_with(
+    args: Vec<Term>,
+    stop: NodeId,
+    ends: Vec<Term>,
+    used: Option<Vec<EdgeId>>,
+) -> Option<SegFold>
+    ensures { option_map seen_seg result ≡ option_map (seg_with args.items stop ends.items) (option_map (λ ids. ids.items) used) }
 {
-    seg_edges(alloc, &half.state, defs, blocked, pred, at, args, end, ends)
+    match used {
+        Some(used) => Some(SegFold {
+            args,
+            stop,
+            ends,
+            used,
+        }),
+        None => None,
+    }
 }
 
 /// The fold of a side's free edges into an Ind with these arguments.
@@ -154,22 +181,21 @@ fn ind_fold(
     args: Vec<Term>,
 ) -> Result<Option<IndFold>, NoMemory>
     requires { AreGood join.now }
+    ensures { IfOk result (λ fold. (w : Basis) → w.defs ≡ defs.now → TellsFrom w (half (seen join.now) side).state
+        → option_map seen_ind fold ≡ ind_fold w (seen join.now) side pair.now pred args.items) }
 {
     let blocked = join.blocked(alloc, side, pair)?;
     let half = join.half(side);
-    let at = of_side(side, pair);
-    match cover_in(
+    let used = cover_edges(
         alloc,
-        half,
+        &half.state,
         defs,
         blocked.as_slice(),
         pred,
-        at,
+        of_side(side, pair),
         args.as_slice(),
-    )? {
-        Some(used) => Ok(Some(IndFold { args, used })),
-        None => Ok(None),
-    }
+    )?;
+    Ok(ind_with(args, used))
 }
 
 /// The fold of a side's free edges into an Ind with guessed arguments.
@@ -182,6 +208,8 @@ pub fn guessed_ind(
     pred: PredId,
 ) -> Result<Option<IndFold>, NoMemory>
     requires { AreGood join.now }
+    ensures { IfOk result (λ fold. (w : Basis) → w.defs ≡ defs.now → TellsFrom w (half (seen join.now) side).state
+        → option_map seen_ind fold ≡ guessed_ind_fold w (seen join.now) side pair.now pred) }
 {
     let args = guessed(alloc, join.half(side), defs, pred, of_side(side, pair))?;
     ind_fold(alloc, join, defs, side, pair, pred, args)
@@ -199,6 +227,9 @@ pub fn ind_for(
     args: &[NodeId],
 ) -> Result<Option<IndFold>, NoMemory>
     requires { AreGood join.now }
+    ensures { IfOk result (λ fold. (w : Basis) (i : IndParts) → w.defs ≡ defs.now
+        → TellsFrom w (half (seen join.now) (across side)).state → i.args ≡ args.now
+        → option_map seen_ind fold ≡ ind_fold_for w (seen join.now) side pair.now pred i) }
 {
     let other = across(side);
     let found = guessed(alloc, join.half(other), defs, pred, of_side(other, pair))?;
@@ -218,14 +249,16 @@ fn seg_fold(
     ends: Vec<Term>,
 ) -> Result<Option<SegFold>, NoMemory>
     requires { AreGood join.now }
+    ensures { IfOk result (λ fold. (w : Basis) → w.defs ≡ defs.now → TellsFrom w (half (seen join.now) side).state
+        → option_map seen_seg fold ≡ seg_fold w (seen join.now) side pair.now pred end ends.items) }
 {
     let half = join.half(side);
     let at = of_side(side, pair);
     let args = guessed_to(alloc, half, defs, pred, at, end, ends.as_slice())?;
     let blocked = join.blocked(alloc, side, pair)?;
-    match seg_in(
+    let used = seg_edges(
         alloc,
-        half,
+        &half.state,
         defs,
         blocked.as_slice(),
         pred,
@@ -233,15 +266,24 @@ fn seg_fold(
         args.as_slice(),
         end,
         ends.as_slice(),
-    )? {
-        Some(used) => Ok(Some(SegFold {
-            args,
-            end,
-            ends,
-            used,
-        })),
-        None => Ok(None),
-    }
+    )?;
+    Ok(seg_with(args, end, ends, used))
+}
+
+/// The arguments of a side's edge where a segment of a predicate is to end.
+fn standing_ends(
+    alloc: Global,
+    join: &Joining,
+    defs: &Defs,
+    side: Side,
+    pred: PredId,
+    end: NodeId,
+) -> Result<Vec<Term>, NoMemory>
+    ensures { IfOk result (λ terms. (w : Basis) → w.defs ≡ defs.now → TellsFrom w (half (seen join.now) side).state
+        → terms.items ≡ standing_ends w (seen join.now) side pred end) }
+{
+    let nodes = standing(alloc, join.half(side), defs, pred, end)?;
+    plain_all(alloc, nodes.as_slice())
 }
 
 /// The fold of a side's free edges into a Seg to another pair's node, where the end arguments are those of an edge there.
@@ -255,10 +297,11 @@ pub fn seg_to(
     end: NodeId,
 ) -> Result<Option<SegFold>, NoMemory>
     requires { AreGood join.now }
+    ensures { IfOk result (λ fold. (w : Basis) → w.defs ≡ defs.now → TellsFrom w (half (seen join.now) side).state
+        → option_map seen_seg fold
+        ≡ seg_fold w (seen join.now) side pair.now pred end (standing_ends w (seen join.now) side pred end)) }
 {
-    let half = join.half(side);
-    let nodes = standing_args(alloc, &half.state, defs, half.used.as_slice(), pred, end)?;
-    let ends = plain_all(alloc, nodes.as_slice())?;
+    let ends = standing_ends(alloc, join, defs, side, pred, end)?;
     seg_fold(alloc, join, defs, side, pair, pred, end, ends)
 }
 
@@ -274,10 +317,11 @@ pub fn seg_for(
     others: &[NodeId],
 ) -> Result<Option<SegFold>, NoMemory>
     requires { AreGood join.now }
+    ensures { IfOk result (λ fold. (w : Basis) → w.defs ≡ defs.now → TellsFrom w (half (seen join.now) side).state
+        → option_map seen_seg fold
+        ≡ seg_fold w (seen join.now) side pair.now pred end (partner_ends w (seen join.now) side pred end others.now)) }
 {
-    let half = join.half(side);
-    let nodes = standing_args(alloc, &half.state, defs, half.used.as_slice(), pred, end)?;
-    let found = plain_all(alloc, nodes.as_slice())?;
+    let found = standing_ends(alloc, join, defs, side, pred, end)?;
     let ends = partner_or_terms(
         alloc,
         join.pairs.as_slice(),
@@ -297,6 +341,8 @@ pub fn ind_has_nodes(
     fold: &IndFold,
 ) -> Result<bool, NoMemory>
     requires { IsGood half.now.state }
+    ensures { IfOk result (λ can. (w : Basis) → w.defs ≡ defs.now → TellsFrom w half.now.state
+        → can ≡ is_some (nodes_of_args w pred half.now.state fold.now.args.items)) }
 {
     can_name(alloc, &half.state, defs, pred, fold.args.as_slice())
 }
@@ -310,6 +356,8 @@ pub fn seg_has_nodes(
     fold: &SegFold,
 ) -> Result<bool, NoMemory>
     requires { IsGood half.now.state }
+    ensures { IfOk result (λ can. (w : Basis) → w.defs ≡ defs.now → TellsFrom w half.now.state
+        → can ≡ is_some (nodes_of_both w pred half.now.state fold.now.args.items fold.now.ends.items)) }
 {
     can_name_both(
         alloc,
@@ -331,7 +379,10 @@ fn name_in(
     args: &[Term],
 ) -> Result<Option<Vec<NodeId>>, NoMemory>
     requires { AreGood join.old }
-    ensures { OnOk result (AreGood join.new) }
+    ensures named { IfOk result (λ found. (w : Basis) → w.defs ≡ defs.now → TellsFrom w (half (seen join.old) side).state
+        → option_map (λ nodes. with_named (half (seen join.new) side).state nodes.items) found
+        ≡ nodes_of_args w pred (half (seen join.old) side).state args.now) }
+    ensures only { OnOk result (OnlyNames side join.old join.new) }
 {
     match side {
         Side::Left => name_args(alloc, &mut join.left.state, defs, pred, args),
@@ -351,7 +402,10 @@ pub fn folded_ind(
     fold: IndFold,
 ) -> Result<Option<Part>, NoMemory>
     requires { AreGood join.old }
-    ensures { OnOk result (AreGood join.new) }
+    ensures made { IfOk result (λ part. (w : Basis) → w.defs ≡ defs.now → TellsFrom w (half (seen join.old) side).state
+        → option_map (seen_part (half (seen join.new) side).state) part
+        ≡ made_ind w (seen join.old) side pair.now pred (seen_ind fold)) }
+    ensures only { OnOk result (OnlyNames side join.old join.new) }
 {
     let IndFold { args, used } = fold;
     match name_in(alloc, join, defs, side, pred, args.as_slice())? {
@@ -378,7 +432,9 @@ fn seg(
     pred: PredId,
     end: NodeId,
     ends: &[NodeId],
-) -> Result<Edge, NoMemory> {
+) -> Result<Edge, NoMemory>
+    ensures { IfOk result (λ edge. edge ≡ Seg at args.now pred end ends.now) }
+{
     Ok(Edge::Seg {
         at,
         args: args_of(alloc, args)?,
@@ -400,11 +456,14 @@ pub fn folded_seg(
     fold: SegFold,
 ) -> Result<Option<Part>, NoMemory>
     requires { AreGood join.old }
-    ensures { OnOk result (AreGood join.new) }
+    ensures made { IfOk result (λ part. (w : Basis) → w.defs ≡ defs.now → TellsFrom w (half (seen join.old) side).state
+        → option_map (seen_part (half (seen join.new) side).state) part
+        ≡ made_seg w (seen join.old) side pair.now pred (seen_seg fold)) }
+    ensures only { OnOk result (OnlyNames side join.old join.new) }
 {
     let SegFold {
         args,
-        end,
+        stop,
         ends,
         used,
     } = fold;
@@ -419,7 +478,7 @@ pub fn folded_seg(
         of_side(side, pair),
         first.as_slice(),
         pred,
-        end,
+        stop,
         last.as_slice(),
     )?;
     Ok(Some(Part { edge, used }))

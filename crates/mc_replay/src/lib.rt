@@ -5,8 +5,12 @@
 //! - `pairs`, `edges`, `forms`, `made`, `joining`: pairs, the edges that count at them, the edges of the result, each as
 //!   `mc_joins` defines it.
 //! - `naming`, `covers`: nodes of terms, the edges that the first cover takes, arguments, likewise.
-//! - `folds`, `steps`, `whole`, `answers`: the steps, whether any applies, and what a whole join gives. Of these it is
-//!   proved so far that they end, and that both states stay well made and not false; so nothing of this crate is public.
+//! - `folds`, `steps`, `whole`: what a side gives to a step, the steps, whether any applies, and what a whole join gives,
+//!   likewise.
+//! - `answers`: `replay`: whether steps are a whole join, and what it gives; whether they lead to a join at which a step is
+//!   left or none applies; or which of them is the first that does not apply.
+//! - `changes`: what the lines of chains give that change the states of a cut, after their first two premises: `opened` of
+//!   C2, `rejoined` of C3, the state that the cut gets, or the first premise that is unmet.
 #![tactic(auto)]
 
 mod answers;
@@ -21,3 +25,7 @@ mod naming;
 mod pairs;
 mod steps;
 mod whole;
+
+pub use answers::{Replayed, replay};
+pub use changes::{changes_are_parted, opened, rejoined};
+pub use pairs::Pair;

@@ -1,71 +1,91 @@
-// What a whole join gives. Where a node, an edge or an atom of it did not fit, which no join of well-made states comes to,
-// the answer is as where memory is wanting.
-ghost use Rattle.std.specs.Prelude.{◌≡◌, ◌≢◌, ◌++◌, All, IfOk, IsTrue, OnOk, true};
-ghost use Rattle.mc_base.specs.Nodes.{null};
+// What a whole join gives.
+ghost use Rattle.std.specs.Prelude.{◌≡◌, ◌==◌, ◌<◌, ◌&&◌, None, [], ◌∷◌, All, IfOk, OnOk, drop, length};
+ghost use Rattle.std.specs.List.{AllByRecursion};
 ghost use Rattle.mc_base.specs.Ranges.Ends.{IsInt};
+ghost use Rattle.mc_pure.specs.Derived.{IsFalse as IsFalsePure};
+ghost use Rattle.mc_pure.specs.Pure.{IsNode, IsWellFormed};
+ghost use Rattle.mc_pure_ops.specs.Join.Joint.{AreJoinable, IsJoin};
+ghost use Rattle.mc_state.specs.Facts.{IsFalse};
 ghost use Rattle.mc_state.specs.Fits.{AreNodes};
 ghost use Rattle.mc_state.specs.Graph.Edges.{known_nodes, nodes_of};
+ghost use Rattle.mc_state.specs.State.{pure_of, with_atoms, with_edges};
+ghost use Rattle.mc_cover.specs.Search.Setting.{free_edges};
+ghost use Rattle.mc_joins.specs.Joinings.{next_pair};
+ghost use Rattle.mc_joins.specs.Whole.{AreJointAtoms, all_used, kind_of_pair, result_of};
+ghost use Rattle.mc_replay.specs.Joined.{seen};
+ghost use Rattle.mc_replay.specs.Whole.{HasPairKind, IsReached, MayBeMade, ReachedMayBeMade, SaysAll, bare_result, with_pair_nodes};
 
 use crate::edges::is_used;
 use crate::joining::{Half, Joining};
 use crate::made::known_for;
 use crate::pairs::Pair;
 use mc_base::{Atom, Kind, NoMemory, NodeId, VarId};
+use mc_joins::anew::put_whole;
+use mc_joins::same::derived_is_renamed;
 use mc_pure::Pure;
 use mc_pure_ops::canon::forget;
-use mc_pure_ops::join::{are_joinable, join};
+use mc_rules_logic::fold::{naming_is_judged, naming_makes_well};
 use mc_state::graph::Edge;
+use mc_state::{nodes_are_there, tests_tell};
 use mc_symbolic::State;
-use std::alloc::{AllocError, Global};
+use std::alloc::Global;
+
+/// Where steps come to the end of a join of well-made states that are not false, what it gives may be put together.
+fn reached_may_be_made()
+    ensures { ReachedMayBeMade }
+{
+    mc_pure::normal_forms_say_all();
+    mc_pure::derived_grows();
+    mc_pure::each_is_decided();
+    naming_is_judged();
+    naming_makes_well();
+    nodes_are_there();
+    tests_tell();
+    derived_is_renamed();
+}
 
 /// What is known on both sides, as written atoms.
-fn joint(
-    alloc: Global,
-    left: &Pure,
-    right: &Pure,
-    pairs: &[Pair],
-    round: u64,
-    thresholds: &[i64],
-) -> Result<Pure, NoMemory>
-    requires { All IsInt thresholds.now }
+fn joint(alloc: Global, join: &Joining, round: u64, thresholds: &[i64]) -> Result<Pure, NoMemory>
+    requires left_true { IsFalse join.now.left.state → ⊥ }
+    requires right_true { IsFalse join.now.right.state → ⊥ }
+    requires joinable { AreJoinable (pure_of join.now.left.state) (pure_of join.now.right.state)
+        join.now.pairs.items }
+    requires ints { All IsInt thresholds.now }
+    ensures { IfOk result (λ joint. IsJoin (pure_of join.now.left.state) (pure_of join.now.right.state)
+        join.now.pairs.items round thresholds.now joint) }
 {
-    if left.is_false() {
-        return Err(AllocError);
-    }
-    if right.is_false() {
-        return Err(AllocError);
-    }
-    if !are_joinable(left, right, pairs) {
-        return Err(AllocError);
-    }
-    join(alloc, left, right, pairs, round, thresholds)
+    mc_pure::derived_grows();
+    let left = join.left.state.known();
+    let right = join.right.state.known();
+    let pairs = join.pairs.as_slice();
+    let both = mc_pure_ops::join::join(alloc, left, right, pairs, round, thresholds)?;
+    Ok(both)
 }
 
-/// Whether a node is another one than node 0.
-fn is_not_null(node: NodeId) -> bool
-    ensures { result ≡ true → node ≢ null }
+/// The list of all that is known of the nodes, also inside one class: what is written where a further node, of which nothing is
+/// known, is forgotten.
+fn whole_list(alloc: Global, known: &Pure, further: NodeId) -> Result<Vec<Atom>, NoMemory>
+    requires bare { known.now.starts ≡ [] }
+    requires consistent { IsFalsePure known.now → ⊥ }
+    requires new { IsNode known.now.kinds further → ⊥ }
+    ensures { IfOk result (λ list. SaysAll known.now list.items) }
 {
-    node.0 != 0
-}
-
-/// The list of all that is known of the nodes, also inside one class: what is written where a further node is forgotten.
-fn whole_list(alloc: Global, known: &Pure, further: NodeId) -> Result<Vec<Atom>, NoMemory> {
-    if !is_not_null(further) {
-        return Err(AllocError);
-    }
-    if known.has(further) {
-        return Err(AllocError);
-    }
+    mc_pure::normal_forms_say_all();
+    mc_pure::derived_grows();
+    derived_is_renamed();
+    known.is_kept();
+    known.has_normal_form();
     let mut more = known.copy()?;
     more.node(further, Kind::Int)?;
-    if !more.has(further) {
-        return Err(AllocError);
-    }
-    forget(alloc, &more, further)
+    more.is_kept();
+    let list = forget(alloc, &more, further)?;
+    Ok(list)
 }
 
 /// The kind of a pair: that of a node of it other than 0.
-fn kind_of_pair(join: &Joining, pair: &Pair) -> Option<Kind> {
+fn kind_of_pair(join: &Joining, pair: &Pair) -> Option<Kind>
+    ensures { result ≡ kind_of_pair (seen join.now) pair.now }
+{
     match join.left.state.kind(pair.0) {
         Some(kind) => Some(kind),
         None => join.right.state.kind(pair.1),
@@ -73,138 +93,71 @@ fn kind_of_pair(join: &Joining, pair: &Pair) -> Option<Kind> {
 }
 
 /// Adds a node for a pair.
-fn put_node(out: &mut State, join: &Joining, pair: &Pair) -> Result<(), NoMemory> {
+fn put_node(out: &mut State, join: &Joining, pair: &Pair) -> Result<(), NoMemory>
+    requires { HasPairKind (seen join.now) pair.now }
+    ensures { OnOk result (out.new ≡ with_pair_nodes (seen join.now) out.old (pair.now ∷ [])) }
+{
     match kind_of_pair(join, pair) {
         Some(kind) => {
             out.add_node(kind)?;
             Ok(())
         }
-        None => Err(AllocError),
+        None => unreachable!(),
     }
 }
 
 /// Adds a node for each pair but the first.
-fn put_nodes(out: &mut State, join: &Joining) -> Result<(), NoMemory> {
-    for (place, pair) in join.pairs.as_slice().iter().enumerate() {
-        if place != 0 {
-            put_node(out, join, pair)?;
-        }
+fn put_nodes(out: &mut State, join: &Joining) -> Result<(), NoMemory>
+    requires first { 0 < length join.now.pairs.items }
+    requires others { AllByRecursion (HasPairKind (seen join.now)) (drop 1 join.now.pairs.items) }
+    ensures { OnOk result (out.new ≡ with_pair_nodes (seen join.now) out.old (drop 1 join.now.pairs.items)) }
+{
+    let pairs = join.pairs.as_slice();
+    for place in 1..pairs.len() {
+        put_node(out, join, &pairs[place])?;
     }
     Ok(())
 }
 
-/// Adds the nodes of fields that are known.
-fn push_known(found: &mut Vec<NodeId>, fields: &[Option<NodeId>]) -> Result<(), NoMemory>
-    ensures { OnOk result (found.new.items ≡ found.old.items ++ known_nodes fields.now) }
+/// Gives the variables their nodes, where they are known.
+fn put_vars(out: &mut State, env: &[Option<NodeId>])
+    requires long { length out.old.env ≡ length env.now }
+    requires there { AreNodes out.old.kinds (known_nodes env.now) }
+    ensures { out.new ≡ record out.old { env = env.now } }
 {
-    for field in fields {
-        if let Some(node) = *field {
-            found.push(node)?;
-        }
-    }
-    Ok(())
-}
-
-/// Adds the nodes of an edge.
-fn push_nodes(found: &mut Vec<NodeId>, edge: &Edge) -> Result<(), NoMemory>
-    ensures { OnOk result (found.new.items ≡ found.old.items ++ nodes_of edge.now) }
-{
-    found.push(edge.start())?;
-    match edge {
-        Edge::Block { fields, .. } => push_known(found, fields.as_slice()),
-        Edge::Ind { args, .. } => found.extend_from_slice(args.as_slice()),
-        Edge::Seg {
-            args,
-            end,
-            end_args,
-            ..
-        } => {
-            found.extend_from_slice(args.as_slice())?;
-            found.push(*end)?;
-            found.extend_from_slice(end_args.as_slice())
-        }
+    for place in 0..env.len() {
+        out.set_var(VarId(place as u64), env[place]);
     }
 }
 
-/// Whether all of the nodes are there.
-fn are_there(state: &State, nodes: &[NodeId]) -> bool
-    ensures { IsTrue result → AreNodes state.now.kinds nodes.now }
+/// Adds edges in order.
+fn put_edges(alloc: Global, out: &mut State, edges: &[Edge]) -> Result<(), NoMemory>
+    requires { AllByRecursion (λ e. AreNodes out.old.kinds (nodes_of e)) edges.now }
+    ensures { OnOk result (out.new ≡ with_edges out.old edges.now) }
 {
-    for node in nodes {
-        if !state.is_there(*node) {
-            return false;
-        }
-    }
-    true
-}
-
-/// Whether all nodes of an edge are there.
-fn is_all_there(alloc: Global, state: &State, edge: &Edge) -> Result<bool, NoMemory>
-    ensures { IfOk result (λ there. IsTrue there → AreNodes state.now.kinds (nodes_of edge.now)) }
-{
-    let mut nodes = Vec::new(alloc);
-    push_nodes(&mut nodes, edge)?;
-    let there = are_there(state, nodes.as_slice());
-    Ok(there)
-}
-
-/// Adds an edge.
-fn put_edge(alloc: Global, out: &mut State, edge: &Edge) -> Result<(), NoMemory> {
-    let copy = edge.copy(alloc)?;
-    if !is_all_there(alloc, out, &copy)? {
-        return Err(AllocError);
-    }
-    out.add_edge(copy)?;
-    Ok(())
-}
-
-/// Adds the edges in order.
-fn put_edges(alloc: Global, out: &mut State, edges: &[Edge]) -> Result<(), NoMemory> {
     for edge in edges {
-        put_edge(alloc, out, edge)?;
+        let copy = edge.copy(alloc)?;
+        out.add_edge(copy)?;
     }
     Ok(())
 }
 
-/// Gives a variable its node, where it is known.
-fn put_var(out: &mut State, x: VarId, node: Option<NodeId>) -> Result<(), NoMemory> {
-    let Some(node) = node else {
-        return Ok(());
-    };
-    if !out.is_there(node) {
-        return Err(AllocError);
-    }
-    out.set_var(x, Some(node));
-    Ok(())
-}
-
-/// Gives the variables their nodes.
-fn put_vars(out: &mut State, env: &[Option<NodeId>]) -> Result<(), NoMemory> {
-    for (place, node) in env.iter().enumerate() {
-        put_var(out, VarId(place as u64), *node)?;
-    }
-    Ok(())
-}
-
-/// Writes an atom down.
-fn put_atom(out: &mut State, atom: &Atom) -> Result<(), NoMemory> {
-    if !out.allows(atom) {
-        return Err(AllocError);
-    }
-    out.assume(atom)?;
-    Ok(())
-}
-
-/// Writes the atoms down.
-fn put_atoms(out: &mut State, atoms: &[Atom]) -> Result<(), NoMemory> {
+/// Writes atoms down.
+fn put_atoms(out: &mut State, atoms: &[Atom]) -> Result<(), NoMemory>
+    requires { AllByRecursion (IsWellFormed out.old.kinds) atoms.now }
+    ensures { OnOk result (out.new ≡ with_atoms out.old atoms.now) }
+{
     for atom in atoms {
-        put_atom(out, atom)?;
+        out.assume(atom)?;
     }
     Ok(())
 }
 
 /// Whether no edge of a side is left out.
-fn is_all_used(half: &Half) -> bool {
+fn is_all_used(half: &Half) -> bool
+    ensures { result ≡ (length (free_edges half.now.state half.now.used.items) == 0) }
+{
+    half.state.is_bounded();
     for entry in half.state.edges() {
         if !is_used(half.used.as_slice(), entry.0) {
             return false;
@@ -213,55 +166,48 @@ fn is_all_used(half: &Half) -> bool {
     true
 }
 
+/// Whether both states are whole, and none of their edges is left out.
+fn is_whole(left: &State, right: &State, join: &Joining) -> bool
+    ensures { result ≡ (left.now.whole && right.now.whole && all_used (seen join.now)) }
+{
+    left.is_whole() && right.is_whole() && is_all_used(&join.left) && is_all_used(&join.right)
+}
+
 /// The nodes, edges and variables of what a join gives, without atoms.
-fn bare(alloc: Global, join: &Joining) -> Result<State, NoMemory> {
-    let pairs = join.pairs.as_slice();
-    let env = known_for(alloc, pairs, join.left.state.env(), join.right.state.env())?;
+fn bare(alloc: Global, left: &State, right: &State, join: &Joining) -> Result<State, NoMemory>
+    requires { MayBeMade left.now right.now (seen join.now) }
+    ensures { IfOk result (λ out. out ≡ bare_result left.now right.now (seen join.now)) }
+{
+    let env = known_for(alloc, join.pairs.as_slice(), left.env(), right.env())?;
     let mut out = State::unknown(alloc, env.len())?;
     put_nodes(&mut out, join)?;
-    put_vars(&mut out, env.as_slice())?;
+    put_vars(&mut out, env.as_slice());
     put_edges(alloc, &mut out, join.edges.as_slice())?;
     Ok(out)
 }
 
-/// The atoms of a join, as they are written.
-fn atoms_of(
-    alloc: Global,
-    join: &Joining,
-    further: NodeId,
-    round: u64,
-    thresholds: &[i64],
-) -> Result<Vec<Atom>, NoMemory>
-    requires { All IsInt thresholds.now }
-{
-    let left = join.left.state.known();
-    let right = join.right.state.known();
-    let known = joint(alloc, left, right, join.pairs.as_slice(), round, thresholds)?;
-    whole_list(alloc, &known, further)
-}
-
-/// Whether both states of a join are whole, and none of their edges is left out.
-fn is_whole(join: &Joining) -> bool {
-    join.left.state.is_whole()
-        && join.right.state.is_whole()
-        && is_all_used(&join.left)
-        && is_all_used(&join.right)
-}
-
-/// What a join gives in a pass, where no step is left.
+/// What a join of two states gives in a pass, where steps have led to its end.
 pub fn joined_state(
     alloc: Global,
+    left: &State,
+    right: &State,
     join: &Joining,
     round: u64,
     thresholds: &[i64],
 ) -> Result<State, NoMemory>
-    requires { All IsInt thresholds.now }
+    requires reached { IsReached left.now right.now (seen join.now) }
+    requires done { next_pair (seen join.now) ≡ None }
+    requires ints { All IsInt thresholds.now }
+    ensures gives { IfOk result (λ t. t ≡ result_of left.now right.now (seen join.now) t.atoms) }
+    ensures atoms { IfOk result (λ t. AreJointAtoms round thresholds.now (seen join.now) t) }
 {
-    let mut out = bare(alloc, join)?;
-    let atoms = atoms_of(alloc, join, out.next_node(), round, thresholds)?;
+    reached_may_be_made();
+    nodes_are_there();
+    derived_is_renamed();
+    let mut out = bare(alloc, left, right, join)?;
+    let known = joint(alloc, join, round, thresholds)?;
+    let atoms = whole_list(alloc, &known, out.next_node())?;
     put_atoms(&mut out, atoms.as_slice())?;
-    if !is_whole(join) {
-        out.clear_whole();
-    }
+    put_whole(&mut out, is_whole(left, right, join));
     Ok(out)
 }

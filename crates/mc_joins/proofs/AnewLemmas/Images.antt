@@ -1,5 +1,5 @@
 -- The images of a state's nodes are their new numbers.
-use Rattle.std.proofs.Common.{◌≡◌, inl, inr, ℕ, suc, ◌<◌, ◌≤◌, ◌+◌, List, [], ◌∷◌, ◌++◌, Option, Some, None, Bool, true, false, nat_eq, length, map, option_map, refl, sym, ◌∙◌, ap, subst, arith}
+use Rattle.std.proofs.Common.{◌≡◌, inl, inr, ℕ, suc, ◌<◌, ◌≤◌, ◌+◌, List, [], ◌∷◌, Option, Some, None, Bool, true, false, nat_eq, length, map, option_map, refl, sym, ◌∙◌, ap, subst, arith}
 use Rattle.std.specs.Prelude.{if◌then◌else◌}
 use Rattle.std.specs.List.{AllByRecursion}
 use Rattle.mc_base.specs.declared.ids.EdgeId.{EdgeId}
@@ -10,7 +10,6 @@ use Rattle.mc_base.specs.declared.plain.Kind.{Kind}
 use Rattle.mc_base.specs.Atoms.{nodes_of_atom, moved_atom}
 use Rattle.mc_base.specs.Nodes.{null, moved}
 use Rattle.mc_state.specs.declared.graph.edge.Edge.{Edge}
-use Rattle.mc_state.specs.declared.graph.edge.Edge.TheVariants.{Block, Ind, Seg}
 use Rattle.mc_state.specs.Graph.Edges.{known_nodes, nodes_of, moved_edge}
 use Rattle.mc_state.specs.Graph.Graph.{Graph, Edges, no_edges, with_new, numbered, moved_graph}
 use Rattle.mc_pure.specs.Pure.{Kinds, HasKind, IsNode, IsWellFormed, kind_of}

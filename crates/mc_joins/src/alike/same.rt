@@ -1,6 +1,6 @@
 // Whether two states are the same under some renaming.
 ghost use Rattle.std.specs.Prelude.{◌≡◌, ◌↔◌, ◌++◌, IfOk, IsTrue, OnOk};
-ghost use Rattle.mc_state.specs.Graph.Edges.{known_nodes, nodes_of, other_nodes};
+ghost use Rattle.mc_state.specs.Graph.Edges.{known_nodes, nodes_of};
 ghost use Rattle.mc_joins.specs.Alike.Named.{edge_nodes, named_nodes, AllNamed, AreLinks, AreSameBySome};
 
 use crate::alike::equal_under;
@@ -22,16 +22,14 @@ fn add_known(list: &mut Vec<NodeId>, nodes: &[Option<NodeId>]) -> Result<(), NoM
     Ok(())
 }
 
-/// Adds the nodes of an edge but for its start.
-fn add_others(list: &mut Vec<NodeId>, edge: &Edge) -> Result<(), NoMemory>
-    ensures { OnOk result (list.new.items ≡ list.old.items ++ other_nodes edge.now) }
+/// Adds the nodes of an edge.
+fn add_nodes(list: &mut Vec<NodeId>, edge: &Edge) -> Result<(), NoMemory>
+    ensures { OnOk result (list.new.items ≡ list.old.items ++ nodes_of edge.now) }
 {
+    list.push(edge.start())?;
     match edge {
         Edge::Block { fields, .. } => add_known(list, fields.as_slice()),
-        Edge::Ind { args, .. } => {
-            list.extend_from_slice(args.as_slice())?;
-            Ok(())
-        }
+        Edge::Ind { args, .. } => list.extend_from_slice(args.as_slice()),
         Edge::Seg {
             args,
             end,
@@ -40,18 +38,9 @@ fn add_others(list: &mut Vec<NodeId>, edge: &Edge) -> Result<(), NoMemory>
         } => {
             list.extend_from_slice(args.as_slice())?;
             list.push(*end)?;
-            list.extend_from_slice(end_args.as_slice())?;
-            Ok(())
+            list.extend_from_slice(end_args.as_slice())
         }
     }
-}
-
-/// Adds all nodes of an edge.
-fn add_nodes(list: &mut Vec<NodeId>, edge: &Edge) -> Result<(), NoMemory>
-    ensures { OnOk result (list.new.items ≡ list.old.items ++ nodes_of edge.now) }
-{
-    list.push(edge.start())?;
-    add_others(list, edge)
 }
 
 /// Adds the nodes of edges.

@@ -1,5 +1,5 @@
 -- Documents of which some lines are spelled and read.
-use Rattle.std.proofs.Common.{◌≡◌, ◌≢◌, ◌⊎◌, inl, inr, ◌+◌, ℕ, List, [], ◌∷◌, ◌++◌, Bool, length, refl, sym, ◌∙◌, ap, subst}
+use Rattle.std.proofs.Common.{◌≡◌, ◌≢◌, ◌⊎◌, inl, inr, ◌+◌, ℕ, suc, List, [], ◌∷◌, ◌++◌, length, refl, sym, ◌∙◌, ap, subst}
 use Rattle.std.specs.Prelude.{Result, Ok, Err}
 use Rattle.mc_lines.specs.declared.cert.fault.LineFault.{LineFault}
 use Rattle.mc_lines.specs.declared.cert.fault.LineFault.TheVariants as faults
@@ -9,15 +9,16 @@ use Rattle.mc_lines.specs.declared.cert.line.Line.TheVariants.{Header}
 use Rattle.mc_lines.specs.Cert.Document.{ReadsAs, Spells}
 use Rattle.mc_flow.specs.declared.defs.rules.Def.{Def}
 use Rattle.mc_flow.specs.declared.graph.Flow.{Flow}
-use Rattle.mc_state.specs.Premises.{Judged}
+use Rattle.mc_state.specs.Premises.{then_give}
 use Rattle.mc_state.specs.declared.line.Form.{Form}
 use Rattle.mc_state.specs.declared.line.Version.TheVariants.{One}
-use Rattle.mc_state.specs.declared.raw_state.RawState.{RawState}
-use Rattle.mc_kernel.specs.Judges.{Knowledge}
-use Rattle.mc_kernel.specs.Readings.{Reading, Stage, begun, behind, finished, reading_line}
-use Rattle.mc_kernel.specs.Reading.Documents.{reading_document}
-use Rattle.mc_kernel.specs.Reading.Laws.{LinesAreAdded, ReadIsNotRefused}
+use Rattle.mc_kernel.specs.Readings as certificates
 use Rattle.mc_kernel.proofs.ReadingLemmas.Lists.{append_twice}
+use Rattle.mc_joins.specs.Chains.InOrder.{in_order}
+use Rattle.mc_joins.specs.Chains.Judges as chains
+use Rattle.mc_joins.specs.Chains.Judges.{Lore}
+use Rattle.mc_joins.proofs.ChainsLemmas.InOrder.{behind_yes, lines_split, read_or_refused}
+use Rattle.mc_judge.specs.Documents.{Document, certificate, chain, IsEnded, begun, read_document, read_line}
 use Rattle.mc_judge.specs.declared.judge.verdict.Refusal.{Refusal}
 use Rattle.mc_judge.specs.declared.judge.verdict.Refusal.TheVariants as refusal
 use Rattle.mc_judge.specs.Judge.Verdicts.{GoesOn, IsReading, IsRefusal, IsRefusedBehind, IsUnmetBehind, SpellAll}
@@ -95,86 +96,98 @@ same_fault a b e = cc e
 
 -- ---- what is read
 
-module _ (k : Knowledge) (well : RawState → Bool) (flow : Flow) (defs : List Def) where
+module _ (k : Lore) (flow : Flow) (defs : List Def) where
   -- a document that has not ended goes on
-  pub goes_on : (texts : List (List ℕ)) (r : Reading) → IsReading k well flow defs texts r → r.stage ≢ finished → GoesOn k well flow defs texts
-  goes_on [] r i still = absurd i.spelled
-  goes_on (t ∷ texts) r i still = (r, i, still)
+  pub goes_on : (texts : List (List ℕ)) (d : Document) → IsReading k flow defs texts d → (IsEnded d → ⊥) → GoesOn k flow defs texts
+  goes_on [] d i still = absurd i.spelled
+  goes_on (t ∷ texts) d i still = (d, i, still)
 
   -- a premise that is unmet where a document stands is so after its texts
-  pub unmet_behind : (texts : List (List ℕ)) (r : Reading) (l : Line) (premise : ℕ) → IsReading k well flow defs texts r → r.stage ≢ finished
-      → reading_line k well flow defs l r ≡ Err premise → IsUnmetBehind k well flow defs texts l premise
-  unmet_behind [] r l premise i still e = absurd i.spelled
-  unmet_behind (t ∷ texts) r l premise i still e = (r, i, still, e)
+  pub unmet_behind : (texts : List (List ℕ)) (d : Document) (l : Line) (premise : ℕ) → IsReading k flow defs texts d → (IsEnded d → ⊥)
+      → read_line k flow defs l d ≡ Err premise → IsUnmetBehind k flow defs texts l premise
+  unmet_behind [] d l premise i still e = absurd i.spelled
+  unmet_behind (t ∷ texts) d l premise i still e = (d, i, still, e)
 
   -- a header begins a document
-  pub header_reads : (text : List ℕ) (form : Form) → Spells text (Header One form) → IsReading k well flow defs (text ∷ []) (begun form)
+  pub header_reads : (text : List ℕ) (form : Form) → Spells text (Header One form) → IsReading k flow defs (text ∷ []) (begun form)
   header_reads text form one = record { form = form; lines = []; spelled = (one, tt); read = refl }
 
   -- one line more
-  pub more_reads : LinesAreAdded → (texts : List (List ℕ)) (text : List ℕ) (l : Line) (r next : Reading) → IsReading k well flow defs texts r
-      → Spells text l → reading_line k well flow defs l r ≡ Ok next → IsReading k well flow defs (texts ++ text ∷ []) next
-  more_reads added texts text l r next i one e = record {
+  pub more_reads : (texts : List (List ℕ)) (text : List ℕ) (l : Line) (d next : Document) → IsReading k flow defs texts d
+      → Spells text l → read_line k flow defs l d ≡ Ok next → IsReading k flow defs (texts ++ text ∷ []) next
+  more_reads texts text l d next i one e = record {
     form = i.form;
     lines = i.lines ++ l ∷ [];
     spelled = spell_end texts (Header One i.form ∷ i.lines) text l i.spelled one;
-    read = added k well flow defs i.form i.lines l r i.read
-        ∙ ap (λ (j : Judged Reading). behind (2 + length i.lines) j (λ (new : Reading). Ok new)) e;
+    read =
+        lines_split (read_line k flow defs) 2 (2 + length i.lines) i.lines (l ∷ []) (begun i.form) d refl i.read
+        ∙ behind_yes (2 + length i.lines) (read_line k flow defs l d) (in_order (read_line k flow defs) (suc (2 + length i.lines)) []) next e;
   }
 
-  same_read : (f g : Form) (a b : List Line) (r s : Reading) → f ≡ g → a ≡ b → reading_document k well flow defs f a ≡ Ok r
-      → reading_document k well flow defs g b ≡ Ok s → r ≡ s
-  same_read f g a b r s e h p q =
-      let moved : reading_document k well flow defs g b ≡ Ok r =
-      subst (λ (x : Form). reading_document k well flow defs x b ≡ Ok r) e (subst (λ (ls : List Line). reading_document k well flow defs f ls ≡ Ok r) h p) in
-      let both : ◌≡◌ {A = Result Reading (ℕ × ℕ)} (Ok r) (Ok s) = sym moved ∙ q in
+  same_read : (f g : Form) (a b : List Line) (d e : Document) → f ≡ g → a ≡ b → read_document k flow defs f a ≡ Ok d
+      → read_document k flow defs g b ≡ Ok e → d ≡ e
+  same_read f g a b d e forms lines p q =
+      let moved : read_document k flow defs g b ≡ Ok d =
+      subst (λ (x : Form). read_document k flow defs x b ≡ Ok d) forms
+      (subst (λ (ls : List Line). read_document k flow defs f ls ≡ Ok d) lines p) in
+      let both : ◌≡◌ {A = Result Document (ℕ × ℕ)} (Ok d) (Ok e) = sym moved ∙ q in
       cc both
 
   -- texts spell one document at most
-  pub same_document : Once → (texts : List (List ℕ)) (r s : Reading) → IsReading k well flow defs texts r → IsReading k well flow defs texts s → r ≡ s
-  same_document once texts r s i j =
+  pub same_document : Once → (texts : List (List ℕ)) (d e : Document) → IsReading k flow defs texts d → IsReading k flow defs texts e → d ≡ e
+  same_document once texts d e i j =
       let both = spell_same once texts (Header One i.form ∷ i.lines) (Header One j.form ∷ j.lines) i.spelled j.spelled in
-      same_read i.form j.form i.lines j.lines r s (same_form i.form j.form i.lines j.lines both) (same_rest i.form j.form i.lines j.lines both) i.read j.read
+      same_read i.form j.form i.lines j.lines d e (same_form i.form j.form i.lines j.lines both) (same_rest i.form j.form i.lines j.lines both) i.read j.read
 
   -- ---- no line after the end
 
-  ended_at : (l : Line) (stage : Stage) (r : Reading) → stage ≡ finished → r.stage ≡ stage → reading_line k well flow defs l r ≡ Err 1
-  ended_at l stage r e is = at l (is ∙ e)
-    where
-      at : (l : Line) → r.stage ≡ finished → reading_line k well flow defs l r ≡ Err 1
-      at (line.Header version form) f = refl
-      at (line.Cut p) f = rw f refl
-      at (line.Head p raw) f = rw f refl
-      at line.Pass f = rw f refl
-      at line.End f = rw f refl
-      at other f = rw f refl
+  certificate_ended : (l : Line) (r : certificates.Reading) → r.stage ≡ certificates.finished
+      → certificates.reading_line k.lines k.formed flow defs l r ≡ Err 1
+  certificate_ended (line.Header version form) r e = refl
+  certificate_ended (line.Cut p) r e = rw e refl
+  certificate_ended (line.Head p raw) r e = rw e refl
+  certificate_ended line.Pass r e = rw e refl
+  certificate_ended line.End r e = rw e refl
+  certificate_ended other r e = rw e refl
+
+  chain_ended : (l : Line) (r : chains.Reading) → r.stage ≡ chains.finished → chains.reading_line k flow defs l r ≡ Err 1
+  chain_ended (line.Header version form) r e = refl
+  chain_ended (line.Cut p) r e = rw e refl
+  chain_ended (line.Head p raw) r e = rw e refl
+  chain_ended line.Pass r e = rw e refl
+  chain_ended line.End r e = rw e refl
+  chain_ended other r e = rw e refl
+
+  ended_at : (l : Line) (d : Document) → IsEnded d → read_line k flow defs l d ≡ Err 1
+  ended_at l (certificate r) e = ap (then_give certificate) (certificate_ended l r e)
+  ended_at l (chain r) e = ap (then_give chain) (chain_ended l r e)
 
   -- ---- what is read is not refused
 
-  module _ (once : Once) (apart : ReadIsNotRefused) where
-    unread : (before : List (List ℕ)) (text : List ℕ) (form : Form) (lines : List Line) (last r : Reading) (premise : ℕ)
-        → reading_document k well flow defs form lines ≡ Ok last → (s : Split before text (Header One form ∷ lines))
-        → IsReading k well flow defs before r → reading_line k well flow defs s.own r ≡ Err premise → ⊥
-    unread before text form lines last r premise read s i unmet =
+  module _ (once : Once) where
+    unread : (before : List (List ℕ)) (text : List ℕ) (form : Form) (lines : List Line) (last d : Document) (premise : ℕ)
+        → read_document k flow defs form lines ≡ Ok last → (s : Split before text (Header One form ∷ lines))
+        → IsReading k flow defs before d → read_line k flow defs s.own d ≡ Err premise → ⊥
+    unread before text form lines last d premise read s i unmet =
         let firsts : s.first ≡ Header One i.form ∷ i.lines = spell_same once before s.first (Header One i.form ∷ i.lines) s.firsts i.spelled in
         let all : Header One form ∷ lines ≡ Header One i.form ∷ (i.lines ++ s.own ∷ s.last) =
         s.are ∙ ap (λ (ls : List Line). ls ++ s.own ∷ s.last) firsts in
         let forms : form ≡ i.form = same_form form i.form lines (i.lines ++ s.own ∷ s.last) all in
         let rest : lines ≡ i.lines ++ s.own ∷ s.last = same_rest form i.form lines (i.lines ++ s.own ∷ s.last) all in
-        apart k well flow defs form lines last (2 + length i.lines) premise read (record {
+        read_or_refused (read_line k flow defs) 2 lines (begun form) last (2 + length i.lines) premise read (record {
           before = i.lines;
           line = s.own;
           later = s.last;
           spelled = rest;
           numbered = refl;
-          reading = r;
-          read = subst (λ (f : Form). reading_document k well flow defs f i.lines ≡ Ok r) (sym forms) i.read;
+          reading = d;
+          read = subst (λ (f : Form). read_document k flow defs f i.lines ≡ Ok d) (sym forms) i.read;
           unmet = unmet;
         })
 
-    unmet_read : (before : List (List ℕ)) (text : List ℕ) (form : Form) (lines : List Line) (last : Reading) (premise : ℕ)
-        → reading_document k well flow defs form lines ≡ Ok last → (s : Split before text (Header One form ∷ lines))
-        → IsUnmetBehind k well flow defs before s.own premise → ⊥
+    unmet_read : (before : List (List ℕ)) (text : List ℕ) (form : Form) (lines : List Line) (last : Document) (premise : ℕ)
+        → read_document k flow defs form lines ≡ Ok last → (s : Split before text (Header One form ∷ lines))
+        → IsUnmetBehind k flow defs before s.own premise → ⊥
     unmet_read [] text form lines last premise read s unmet =
         let firsts : s.first ≡ [] = spell_nothing s.first s.firsts in
         let all : Header One form ∷ lines ≡ s.own ∷ s.last = s.are ∙ ap (λ (ls : List Line). ls ++ s.own ∷ s.last) firsts in
@@ -183,9 +196,9 @@ module _ (k : Knowledge) (well : RawState → Bool) (flow : Flow) (defs : List D
     unmet_read (b ∷ before) text form lines last premise read s unmet =
         unread (b ∷ before) text form lines last unmet.0 premise read s unmet.1 unmet.3
 
-    refused_read : AreRead → (before : List (List ℕ)) (text : List ℕ) (form : Form) (lines : List Line) (last : Reading) (cause : Refusal)
-        → reading_document k well flow defs form lines ≡ Ok last → (s : Split before text (Header One form ∷ lines))
-        → IsRefusedBehind k well flow defs before text cause → ⊥
+    refused_read : AreRead → (before : List (List ℕ)) (text : List ℕ) (form : Form) (lines : List Line) (last : Document) (cause : Refusal)
+        → read_document k flow defs form lines ≡ Ok last → (s : Split before text (Header One form ∷ lines))
+        → IsRefusedBehind k flow defs before text cause → ⊥
     refused_read are_read before text form lines last (refusal.Line number fault) read s bad =
         elim (are_read text s.own (Err fault) s.one bad.2) [
           | inl e ↦ no_fault s.own fault e
@@ -193,23 +206,24 @@ module _ (k : Knowledge) (well : RawState → Bool) (flow : Flow) (defs : List D
         ]
     refused_read are_read before text form lines last (refusal.Rule number name premise) read s bad =
         let own : bad.1.0 ≡ s.own = once text bad.1.0 s.own bad.1.1 s.one in
-        unmet_read before text form lines last premise read s (subst (λ (l : Line). IsUnmetBehind k well flow defs before l premise) own bad.1.3)
+        unmet_read before text form lines last premise read s (subst (λ (l : Line). IsUnmetBehind k flow defs before l premise) own bad.1.3)
     refused_read are_read before text form lines last (refusal.AfterEnd number) read s bad =
-        unread before text form lines last bad.1.0 1 read s bad.1.1 (ended_at s.own finished bad.1.0 refl bad.1.2)
+        unread before text form lines last bad.1.0 1 read s bad.1.1 (ended_at s.own bad.1.0 bad.1.2)
     refused_read are_read before text form lines last refusal.EndsEarly read s bad = absurd bad
     refused_read are_read before text form lines last refusal.NoAlarm read s bad = absurd bad
+    refused_read are_read before text form lines last refusal.Unfinished read s bad = absurd bad
 
-    pub not_refused : AreRead → (texts : List (List ℕ)) (r : Reading) (cause : Refusal) → IsReading k well flow defs texts r
-        → IsRefusal k well flow defs texts cause → ⊥
-    not_refused are_read texts r cause i bad =
+    pub not_refused : AreRead → (texts : List (List ℕ)) (d : Document) (cause : Refusal) → IsReading k flow defs texts d
+        → IsRefusal k flow defs texts cause → ⊥
+    not_refused are_read texts d cause i bad =
         let spelled : SpellAll (bad.before ++ bad.text ∷ bad.later) (Header One i.form ∷ i.lines) =
         subst (λ (ts : List (List ℕ)). SpellAll ts (Header One i.form ∷ i.lines)) bad.spelled i.spelled in
-        refused_read are_read bad.before bad.text i.form i.lines r cause i.read (split bad.before bad.text bad.later (Header One i.form ∷ i.lines) spelled) bad.refused
+        refused_read are_read bad.before bad.text i.form i.lines d cause i.read (split bad.before bad.text bad.later (Header One i.form ∷ i.lines) spelled) bad.refused
 
   -- ---- what is refused stays so
 
-  pub refusal_more : (texts more : List (List ℕ)) (cause : Refusal) → IsRefusal k well flow defs texts cause
-      → IsRefusal k well flow defs (texts ++ more) cause
+  pub refusal_more : (texts more : List (List ℕ)) (cause : Refusal) → IsRefusal k flow defs texts cause
+      → IsRefusal k flow defs (texts ++ more) cause
   refusal_more texts more cause bad = record {
     before = bad.before;
     text = bad.text;
@@ -218,13 +232,13 @@ module _ (k : Knowledge) (well : RawState → Bool) (flow : Flow) (defs : List D
     refused = bad.refused;
   }
 
-  pub refused_end : (texts : List (List ℕ)) (text : List ℕ) (cause : Refusal) → IsRefusedBehind k well flow defs texts text cause
-      → IsRefusal k well flow defs (texts ++ text ∷ []) cause
+  pub refused_end : (texts : List (List ℕ)) (text : List ℕ) (cause : Refusal) → IsRefusedBehind k flow defs texts text cause
+      → IsRefusal k flow defs (texts ++ text ∷ []) cause
   refused_end texts text cause bad = record { before = texts; text = text; later = []; spelled = refl; refused = bad }
 
   no_texts : (before later : List (List ℕ)) (text : List ℕ) → ◌≡◌ {A = List (List ℕ)} [] (before ++ text ∷ later) → ⊥
   no_texts [] later text e = cc e
   no_texts (t ∷ before) later text e = cc e
 
-  pub nothing_refused : (cause : Refusal) → IsRefusal k well flow defs [] cause → ⊥
+  pub nothing_refused : (cause : Refusal) → IsRefusal k flow defs [] cause → ⊥
   nothing_refused cause bad = no_texts bad.before bad.later bad.text bad.spelled

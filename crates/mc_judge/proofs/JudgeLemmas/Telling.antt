@@ -1,270 +1,319 @@
 -- Verdicts on texts, without a judge.
-use Rattle.std.proofs.Common.{◌≡◌, ◌≢◌, inl, inr, ◌<◌, ℕ, suc, List, [], ◌∷◌, ◌++◌, Bool, true, false, not, Some, None, length, refl, sym, ◌∙◌, ap, subst, arith}
-use Rattle.std.specs.Prelude.{Result, Ok, Err, IfOk, ◌&&◌, if◌then◌else◌}
+use Rattle.std.proofs.Common.{◌≡◌, ◌≢◌, inl, inr, ℕ, List, [], ◌∷◌, Bool, true, false, length, refl, sym, ◌∙◌, ap, subst}
+use Rattle.std.specs.Prelude.{◌↔◌, Result, Ok, Err, IfOk, if◌then◌else◌}
 use Rattle.std.specs.declared.alloc.AllocError.{AllocError}
 use Rattle.mc_lines.specs.declared.cert.line.Line.{Line}
-use Rattle.mc_lines.specs.declared.cert.line.Line.TheVariants as line
 use Rattle.mc_lines.specs.declared.cert.line.Line.TheVariants.{Header}
 use Rattle.mc_lines.specs.Cert.Lines.{lines_of}
 use Rattle.mc_flow.specs.declared.defs.rules.Def.{Def}
 use Rattle.mc_flow.specs.declared.graph.Flow.{Flow}
 use Rattle.mc_flow.specs.Valid.{IsValid}
-use Rattle.mc_state.proofs.Numbered.{need_ok, have_ok, then_ok}
+use Rattle.mc_state.specs.Known.{Test}
+use Rattle.mc_state.specs.State.{State}
 use Rattle.mc_state.specs.declared.line.Form.{Form}
 use Rattle.mc_state.specs.declared.line.Form.TheVariants.{Certificate, Chain}
 use Rattle.mc_state.specs.declared.line.Version.TheVariants.{One}
-use Rattle.mc_state.specs.declared.raw_state.RawState.{RawState}
-use Rattle.mc_rules_steps.specs.Operands.{code_at}
-use Rattle.mc_kernel.specs.Branches.{Path, roots}
-use Rattle.mc_kernel.specs.Certificates.{IsValidCertificate, states_of}
-use Rattle.mc_kernel.specs.Judges.{Knowledge, is_cut, judged_line}
-use Rattle.mc_kernel.specs.Readings.{Reading, Stage, cutting, heading, ruling, finished, begun, is_cutting, is_ruling, is_skip, comes_after, stands_after, has_all_heads, may_head, may_pass, has_no_branch, first_branch, marked, ready, rooted, ruled, setting_of, reading_rule, reading_line, reading_lines}
-use Rattle.mc_kernel.specs.Reading.Documents.{Ends, IsJudge, IsShortChain, reading_document}
-use Rattle.mc_kernel.specs.Reading.Laws.{CertificatesAreRead, CertificatesStickNowhere, ChainsAreRead, ReadIsNotRefused}
-use Rattle.mc_kernel.proofs.ReadingLemmas.Kept.{some_is}
-use Rattle.mc_kernel.proofs.ReadingLemmas.Rules.{behind_ok, same_reading}
+use Rattle.mc_kernel.specs.Branches.{Path}
+use Rattle.mc_kernel.specs.Certificates.{IsValidCertificate}
+use Rattle.mc_kernel.specs.Readings as certificates
+use Rattle.mc_kernel.specs.Reading.Documents.{Ends}
+use Rattle.mc_kernel.specs.Reading.Laws.{CertificatesAreRead, CertificatesStickNowhere}
+use Rattle.mc_joins.specs.Chains.Chains.{HasAlarms, HasNoAlarm, IsUnfinished, KnowsStates}
+use Rattle.mc_joins.specs.Chains.Judges as chains
+use Rattle.mc_joins.specs.Chains.Judges.{Lore, verdict_at, verdict_by, verdict_of}
+use Rattle.mc_joins.specs.Chains.Laws.{IsRight}
+use Rattle.mc_joins.specs.Chains.Read.{IsSaid}
+use Rattle.mc_joins.specs.Chains.ReadLaws.{AlarmsAreSaid, LegalChainsAreOne, NoAlarmIsSaid, UnfinishedIsSaid}
 use Rattle.mc_judge.specs.declared.judge.verdict.Refusal.{Refusal}
 use Rattle.mc_judge.specs.declared.judge.verdict.Refusal.TheVariants as refusal
 use Rattle.mc_judge.specs.declared.judge.verdict.Verdict.{Verdict}
 use Rattle.mc_judge.specs.declared.judge.verdict.Verdict.TheVariants.{Safe, Alarms, Refused}
-use Rattle.mc_judge.specs.Judge.Verdicts.{GoesOn, IsCertificate, IsChain, IsReading, IsVerdict, SpellAll, Tells, said_of}
+use Rattle.mc_judge.specs.Documents.{Document, certificate, chain, IsEnded, read_document}
+use Rattle.mc_judge.specs.Judge.Verdicts.{GoesOn, IsCertificate, IsReading, IsRefusal, IsVerdict, SpellAll, SpellsAlarms, SpellsNoAlarm, SpellsUnfinished, Tells, said_of, verdict_on}
 use Rattle.mc_judge.proofs.JudgeLemmas.Documents.{AreRead, Once, not_refused, same_document}
+use Rattle.mc_judge.proofs.JudgeLemmas.Reads.{certificates_are_read, chains_are_read, from_read}
 
--- ---- what is said of forms and stuck branches
+-- ---- what is said of documents
 
-safe_form : (form : Form) (stuck : List Path) → said_of form stuck ≡ Safe → form ≡ Certificate
-safe_form Certificate stuck e = refl
-safe_form Chain [] e = absurd (cc e)
-safe_form Chain (b ∷ stuck) e = absurd (cc e)
+-- no chain is safe
+chain_unsafe : (v : chains.Verdict) → verdict_on v ≢ Safe
+chain_unsafe (chains.alarms count) e = cc e
+chain_unsafe chains.no_alarm e = cc e
+chain_unsafe chains.unfinished e = cc e
+chain_unsafe chains.ends_early e = cc e
 
-record IsAlarming (form : Form) (stuck : List Path) (count : ℕ) : Type 0 where
-  pub chain : form ≡ Chain
-  pub counted : count ≡ length stuck
-  pub some : 0 < count
+-- what is said of a chain is said as one verdict
+said_once : (v w : chains.Verdict) → verdict_on v ≡ verdict_on w → v ≡ w
+said_once (chains.alarms n) (chains.alarms m) e = let same : n ≡ m = cc e in ap (λ (x : ℕ). chains.alarms x) same
+said_once (chains.alarms n) chains.no_alarm e = absurd (cc e)
+said_once (chains.alarms n) chains.unfinished e = absurd (cc e)
+said_once (chains.alarms n) chains.ends_early e = absurd (cc e)
+said_once chains.no_alarm (chains.alarms m) e = absurd (cc e)
+said_once chains.no_alarm chains.no_alarm e = refl
+said_once chains.no_alarm chains.unfinished e = absurd (cc e)
+said_once chains.no_alarm chains.ends_early e = absurd (cc e)
+said_once chains.unfinished (chains.alarms m) e = absurd (cc e)
+said_once chains.unfinished chains.no_alarm e = absurd (cc e)
+said_once chains.unfinished chains.unfinished e = refl
+said_once chains.unfinished chains.ends_early e = absurd (cc e)
+said_once chains.ends_early (chains.alarms m) e = absurd (cc e)
+said_once chains.ends_early chains.no_alarm e = absurd (cc e)
+said_once chains.ends_early chains.unfinished e = absurd (cc e)
+said_once chains.ends_early chains.ends_early e = refl
 
-alarms_form : (form : Form) (stuck : List Path) (count : ℕ) → said_of form stuck ≡ Alarms count → IsAlarming form stuck count
-alarms_form Certificate stuck count e = absurd (cc e)
-alarms_form Chain [] count e = absurd (cc e)
-alarms_form Chain (b ∷ stuck) count e =
-    let is : suc (length stuck) ≡ count = cc e in
-    record { chain = refl; counted = sym is; some = omega arith }
+-- what is said of a chain that has not ended is that it ends early
+ended_by : (stage : chains.Stage) (r : chains.Reading) → verdict_at stage r ≢ chains.ends_early → stage ≡ chains.finished
+ended_by chains.cutting r ne = absurd (ne refl)
+ended_by chains.heading r ne = absurd (ne refl)
+ended_by chains.passing r ne = absurd (ne refl)
+ended_by chains.finished r ne = refl
 
-said_chain : (stuck : List Path) (count : ℕ) → count ≡ length stuck → 0 < count → said_of Chain stuck ≡ Alarms count
-said_chain [] count e some = absurd (omega arith)
-said_chain (b ∷ stuck) count e some = ap (λ (n : ℕ). Alarms n) (sym e)
+-- and of one that has that it does not
+by_stuck : (stuck : List Path) → verdict_by stuck ≢ chains.ends_early
+by_stuck [] e = cc e
+by_stuck (b ∷ stuck) e = cc e
 
--- ---- a document keeps its form
+by_change : (changed : Bool) (stuck : List Path) → (if changed then chains.unfinished else verdict_by stuck) ≢ chains.ends_early
+by_change true stuck e = cc e
+by_change false stuck e = by_stuck stuck e
 
-rules_form : (flow : Flow) (r t : Reading) (full : Bool) → (if full then Some (ruled r (roots flow (states_of r.heads))) else None) ≡ Some t → t.form ≡ r.form
-rules_form flow r t true e = ap (λ (x : Reading). x.form) (sym (some_is (ruled r (roots flow (states_of r.heads))) t e))
-rules_form flow r t false e = absurd (cc e)
-
-rooted_form : (flow : Flow) (r t : Reading) (form : Form) → rooted flow r form ≡ Some t → t.form ≡ r.form
-rooted_form flow r t Certificate e = rules_form flow r t (has_all_heads flow r.cuts) e
-rooted_form flow r t Chain e = absurd (cc e)
-
-ready_form : (flow : Flow) (r t : Reading) (stage : Stage) → ready flow r stage ≡ Some t → t.form ≡ r.form
-ready_form flow r t cutting e = rooted_form flow r t r.form e
-ready_form flow r t heading e = rooted_form flow r t r.form e
-ready_form flow r t ruling e = ap (λ (x : Reading). x.form) (sym (some_is r t e))
-ready_form flow r t finished e = absurd (cc e)
-
-module _ (k : Knowledge) (well : RawState → Bool) (flow : Flow) (defs : List Def) where
-  rule_form : (l : Line) (r new : Reading) → reading_rule k flow defs l r ≡ Ok new → new.form ≡ r.form
-  rule_form l r new e =
-      let one = have_ok 1 (ready flow r r.stage) _ new e in
-      let two = have_ok 1 (first_branch one.0.branches) _ new one.2 in
-      let come : List Path → Reading = λ (next : List Path). record one.0 { branches = next ++ two.0.1; stuck = one.0.stuck ++ marked l two.0.0 } in
-      let given = then_ok come (judged_line k flow defs (setting_of one.0) l two.0.0) new two.2 in
-      ap (λ (x : Reading). x.form) given.2 ∙ ready_form flow r one.0 r.stage one.1
-
-  line_form : (l : Line) (r new : Reading) → reading_line k well flow defs l r ≡ Ok new → new.form ≡ r.form
-  line_form (line.Header version form) r new e = absurd (cc e)
-  line_form (line.Cut p) r new e =
-      let one = need_ok 1 (is_cutting r.stage) _ new e in
-      let three = need_ok 3 (is_skip (code_at flow p)) _ new one.1 in
-      let four = need_ok 4 (comes_after r.cuts p) _ new three.1 in
-      let is : record r { cuts = r.cuts ++ p ∷ [] } ≡ new = cc four.1 in
-      ap (λ (x : Reading). x.form) (sym is)
-  line_form (line.Head p raw) r new e =
-      let one = need_ok 1 (may_head flow r r.stage) _ new e in
-      let three = need_ok 3 (is_cut r.cuts p && stands_after r.heads p) _ new one.1 in
-      let four = need_ok 4 (well raw) _ new three.1 in
-      let is : record r { stage = heading; heads = r.heads ++ (p, raw) ∷ [] } ≡ new = cc four.1 in
-      ap (λ (x : Reading). x.form) (sym is)
-  line_form line.Pass r new e =
-      let one = need_ok 1 (may_pass flow r r.stage) _ new e in
-      let three = need_ok 3 (not (is_ruling r.stage)) _ new one.1 in
-      let is : ruled r (roots flow (states_of r.heads)) ≡ new = cc three.1 in
-      ap (λ (x : Reading). x.form) (sym is)
-  line_form line.End r new e =
-      let one = have_ok 1 (ready flow r r.stage) _ new e in
-      let three = need_ok 3 (has_no_branch one.0.branches) _ new one.2 in
-      let is : record one.0 { stage = finished } ≡ new = cc three.1 in
-      ap (λ (x : Reading). x.form) (sym is) ∙ ready_form flow r one.0 r.stage one.1
-  line_form l r new e = rule_form l r new e
-
-  lines_form : (n : ℕ) (lines : List Line) (r last : Reading) → reading_lines k well flow defs n lines r ≡ Ok last → last.form ≡ r.form
-  lines_form n [] r last e = ap (λ (x : Reading). x.form) (sym (same_reading r last e))
-  lines_form n (l ∷ lines) r last e =
-      let read = behind_ok n (reading_line k well flow defs l r) (reading_lines k well flow defs (suc n) lines) last e in
-      lines_form (suc n) lines read.0 last read.2 ∙ line_form l r read.0 read.1
-
-  document_form : (form : Form) (lines : List Line) (r : Reading) → reading_document k well flow defs form lines ≡ Ok r → r.form ≡ form
-  document_form form lines r e = lines_form 2 lines (begun form) r e
+ended_late : (r : chains.Reading) → r.stage ≡ chains.finished → verdict_of r ≢ chains.ends_early
+ended_late r e f = by_change r.changed r.stuck (ap (λ (s : chains.Stage). verdict_at s r) (sym e) ∙ f)
 
 -- ---- documents that have ended
 
 pub record Laws : Type 0 where
   pub once : Once
   pub are_read : AreRead
-  pub apart : ReadIsNotRefused
   pub certificates : CertificatesAreRead
   pub no_stuck : CertificatesStickNowhere
-  pub chains : ChainsAreRead
+  pub alarms : AlarmsAreSaid
+  pub no_alarm : NoAlarmIsSaid
+  pub unfinished : UnfinishedIsSaid
+  pub one : LegalChainsAreOne
 
-module _ (laws : Laws) (k : Knowledge) (well : RawState → Bool) (flow : Flow) (defs : List Def) (valid : IsValid flow defs)
-    (judge : IsJudge k well flow defs) where
-  record HasEndedAs (texts : List (List ℕ)) (form : Form) (stuck : List Path) : Type 0 where
-    pub last : Reading
-    pub reading : IsReading k well flow defs texts last
-    pub ended : last.stage ≡ finished
-    pub formed : last.form ≡ form
-    pub stuck_are : last.stuck ≡ stuck
+module _ (laws : Laws) (k : Lore) (flow : Flow) (defs : List Def) (valid : IsValid flow defs) (right : IsRight k flow defs) where
+  -- a document that has ended
+  record HasEndedAs (texts : List (List ℕ)) (d : Document) : Type 0 where
+    pub reading : IsReading k flow defs texts d
+    pub ended : IsEnded d
 
-  -- what ends a document has ended it
-  from_ends : (texts : List (List ℕ)) (form : Form) (lines all : List Line) (stuck : List Path) → SpellAll texts all → all ≡ Header One form ∷ lines
-      → Ends k well flow defs form lines stuck → HasEndedAs texts form stuck
-  from_ends texts form lines all stuck spelled e ends = record {
-    last = ends.last;
-    reading = record { form = form; lines = lines; spelled = subst (λ (ls : List Line). SpellAll texts ls) e spelled; read = ends.read };
-    ended = ends.ended;
-    formed = document_form k well flow defs form lines ends.last ends.read;
-    stuck_are = ends.stuck_are;
-  }
+  not_open : (texts : List (List ℕ)) (d : Document) → HasEndedAs texts d → GoesOn k flow defs texts → ⊥
+  not_open [] d h on = h.reading.spelled
+  not_open (t ∷ texts) d h on =
+      let same : d ≡ on.0 = same_document k flow defs laws.once (t ∷ texts) d on.0 h.reading on.1 in
+      on.2 (subst IsEnded same h.ended)
 
-  from_certificate : (text : List ℕ) → IsCertificate flow defs text → HasEndedAs (lines_of text) Certificate []
-  from_certificate text c =
-      let e = c.valid.spelled in
-      from_ends (lines_of text) Certificate _ c.lines [] c.spelled e
-      ((laws.certificates k well flow defs _ valid judge).1 (subst (λ (ls : List Line). IsValidCertificate flow defs ls) e c.valid))
-
-  from_chain : (text : List ℕ) (stuck : List Path) → IsChain flow defs text stuck → HasEndedAs (lines_of text) Chain stuck
-  from_chain text stuck c =
-      let e = c.short.spelled in
-      from_ends (lines_of text) Chain _ c.lines stuck c.spelled e
-      ((laws.chains k well flow defs _ stuck valid judge).1 (subst (λ (ls : List Line). IsShortChain flow defs ls stuck) e c.short))
-
-  ends_as : (texts : List (List ℕ)) (form : Form) (r : Reading) (i : IsReading k well flow defs texts r) → r.stage ≡ finished → i.form ≡ form
-      → Ends k well flow defs form i.lines r.stuck
-  ends_as texts form r i ended e = record {
-    last = r;
-    read = subst (λ (f : Form). reading_document k well flow defs f i.lines ≡ Ok r) e i.read;
-    ended = ended;
-    stuck_are = refl;
-  }
-
-  spelled_as : (texts : List (List ℕ)) (form : Form) (r : Reading) (i : IsReading k well flow defs texts r) → i.form ≡ form
-      → SpellAll texts (Header One form ∷ i.lines)
-  spelled_as texts form r i e = subst (λ (f : Form). SpellAll texts (Header One f ∷ i.lines)) e i.spelled
-
-  form_is : (texts : List (List ℕ)) (form : Form) (r : Reading) (i : IsReading k well flow defs texts r) → r.form ≡ form → i.form ≡ form
-  form_is texts form r i e = sym (document_form k well flow defs i.form i.lines r i.read) ∙ e
-
-  to_certificate : (text : List ℕ) (r : Reading) → IsReading k well flow defs (lines_of text) r → r.stage ≡ finished → r.form ≡ Certificate
-      → IsCertificate flow defs text
-  to_certificate text r i ended e =
-      let form = form_is (lines_of text) Certificate r i e in
-      let ends = ends_as (lines_of text) Certificate r i ended form in
-      let none : r.stuck ≡ [] = laws.no_stuck k well flow defs i.lines r.stuck valid judge ends in
-      record {
-        lines = Header One Certificate ∷ i.lines;
-        spelled = spelled_as (lines_of text) Certificate r i form;
-        valid = (laws.certificates k well flow defs i.lines valid judge).0
-            (subst (λ (stuck : List Path). Ends k well flow defs Certificate i.lines stuck) none ends);
-      }
-
-  to_chain : (text : List ℕ) (r : Reading) → IsReading k well flow defs (lines_of text) r → r.stage ≡ finished → r.form ≡ Chain
-      → IsChain flow defs text r.stuck
-  to_chain text r i ended e =
-      let form = form_is (lines_of text) Chain r i e in
-      let ends = ends_as (lines_of text) Chain r i ended form in
-      record {
-        lines = Header One Chain ∷ i.lines;
-        spelled = spelled_as (lines_of text) Chain r i form;
-        short = (laws.chains k well flow defs i.lines r.stuck valid judge).0 ends;
-      }
-
-  -- ---- the verdict on a document that has ended
-
-  not_open : (texts : List (List ℕ)) (r : Reading) → IsReading k well flow defs texts r → r.stage ≡ finished → GoesOn k well flow defs texts → ⊥
-  not_open [] r i ended on = i.spelled
-  not_open (t ∷ texts) r i ended on =
-      let same : r ≡ on.0 = same_document k well flow defs laws.once (t ∷ texts) r on.0 i on.1 in
-      on.2 (ap (λ (x : Reading). x.stage) (sym same) ∙ ended)
-
-  ended_verdict : (texts : List (List ℕ)) (verdict : Verdict) (form : Form) (stuck : List Path) → IsVerdict k well flow defs texts verdict
-      → HasEndedAs texts form stuck → verdict ≡ said_of form stuck
-  ended_verdict texts verdict form stuck is h = elim is [
-    | inl e ↦ (let same : e.0 ≡ h.last = same_document k well flow defs laws.once texts e.0 h.last e.1 h.reading in
-        e.3 ∙ ap (λ (r : Reading). said_of r.form r.stuck) same
-        ∙ ap (λ (f : Form). said_of f h.last.stuck) h.formed ∙ ap (λ (s : List Path). said_of form s) h.stuck_are)
+  -- the verdict on it
+  ended_verdict : (texts : List (List ℕ)) (verdict : Verdict) (d : Document) → IsVerdict k flow defs texts verdict → HasEndedAs texts d
+      → verdict ≡ said_of d
+  ended_verdict texts verdict d is h = elim is [
+    | inl e ↦ (let same : e.0 ≡ d = same_document k flow defs laws.once texts e.0 d e.1 h.reading in
+        e.3 ∙ ap (λ (x : Document). said_of x) same)
     | inr other ↦ absurd (elim other [
-      | inl on ↦ not_open texts h.last h.reading h.ended on.0
-      | inr bad ↦ not_refused k well flow defs laws.once laws.apart laws.are_read texts h.last bad.0 h.reading bad.1
+      | inl on ↦ not_open texts d h on.0
+      | inr bad ↦ not_refused k flow defs laws.once laws.are_read texts d bad.0 h.reading bad.1
     ])
   ]
 
-  -- what is said of a document with an end
-  record HasSaid (texts : List (List ℕ)) (verdict : Verdict) : Type 0 where
-    pub last : Reading
-    pub reading : IsReading k well flow defs texts last
-    pub ended : last.stage ≡ finished
-    pub said : verdict ≡ said_of last.form last.stuck
+  -- ---- certificates
 
-  has_said : (texts : List (List ℕ)) (verdict : Verdict) → ((cause : Refusal) → verdict ≢ Refused cause) → IsVerdict k well flow defs texts verdict
-      → HasSaid texts verdict
-  has_said texts verdict never is = elim is [
-    | inl e ↦ record { last = e.0; reading = e.1; ended = e.2; said = e.3 }
+  -- lines that end a certificate, and their texts
+  ends_certificate : (texts : List (List ℕ)) (lines all : List Line) → SpellAll texts all → all ≡ Header One Certificate ∷ lines
+      → Ends k.lines k.formed flow defs Certificate lines [] → (r : certificates.Reading) × HasEndedAs texts (certificate r)
+  ends_certificate texts lines all spelled e ends = (
+    ends.last,
+    record {
+      reading = record {
+        form = Certificate;
+        lines = lines;
+        spelled = subst (λ (ls : List Line). SpellAll texts ls) e spelled;
+        read = rw (certificates_are_read k flow defs 2 lines (certificates.begun Certificate)) (rw ends.read refl);
+      };
+      ended = ends.ended;
+    },
+  )
+
+  safe_to : (text : List ℕ) (verdict : Verdict) → IsVerdict k flow defs (lines_of text) verdict → IsCertificate flow defs text → verdict ≡ Safe
+  safe_to text verdict is c =
+      let e = c.holds.spelled in
+      let ends = ends_certificate (lines_of text) _ c.lines c.spelled e
+      ((laws.certificates k.lines k.formed flow defs _ valid (record { asked = right.asked; formed = right.formed })).1
+      (subst (λ (ls : List Line). IsValidCertificate flow defs ls) e c.holds)) in
+      ended_verdict (lines_of text) verdict (certificate ends.0) is ends.1
+
+  -- a document that is safe
+  safe_document : (text : List ℕ) (form : Form) (lines : List Line) (d : Document) → SpellAll (lines_of text) (Header One form ∷ lines)
+      → read_document k flow defs form lines ≡ Ok d → IsEnded d → said_of d ≡ Safe → IsCertificate flow defs text
+  safe_document text Certificate lines d spelled read ended e =
+      let r = from_read certificate (certificates.reading_lines k.lines k.formed flow defs 2 lines (certificates.begun Certificate)) d
+      (sym (certificates_are_read k flow defs 2 lines (certificates.begun Certificate)) ∙ read) in
+      let ends : Ends k.lines k.formed flow defs Certificate lines r.0.stuck =
+      record { last = r.0; read = r.1; ended = subst IsEnded (sym r.2) ended; stuck_are = refl } in
+      let none = laws.no_stuck k.lines k.formed flow defs lines r.0.stuck valid (record { asked = right.asked; formed = right.formed }) ends in
+      record {
+        lines = Header One Certificate ∷ lines;
+        spelled = spelled;
+        holds = (laws.certificates k.lines k.formed flow defs lines valid (record { asked = right.asked; formed = right.formed })).0
+            (subst (λ (stuck : List Path). Ends k.lines k.formed flow defs Certificate lines stuck) none ends);
+      }
+  safe_document text Chain lines d spelled read ended e =
+      let r = from_read chain (chains.reading_lines k flow defs 2 lines chains.begun_chain) d
+      (sym (chains_are_read k flow defs 2 lines chains.begun_chain) ∙ read) in
+      absurd (chain_unsafe (verdict_of r.0) (ap (λ (x : Document). said_of x) r.2 ∙ e))
+
+  safe_from : (text : List ℕ) (verdict : Verdict) → IsVerdict k flow defs (lines_of text) verdict → verdict ≡ Safe → IsCertificate flow defs text
+  safe_from text verdict is e = elim is [
+    | inl h ↦ safe_document text h.1.form h.1.lines h.0 h.1.spelled h.1.read h.2 (sym h.3 ∙ e)
     | inr other ↦ absurd (elim other [
-      | inl on ↦ never refusal.EndsEarly on.1
-      | inr bad ↦ never bad.0 bad.2
+      | inl on ↦ (let clash : Safe ≡ Refused refusal.EndsEarly = sym e ∙ on.1 in cc clash)
+      | inr bad ↦ (let clash : Safe ≡ Refused bad.0 = sym e ∙ bad.2 in cc clash)
     ])
   ]
 
-  safe_never : (verdict : Verdict) → verdict ≡ Safe → (cause : Refusal) → verdict ≢ Refused cause
-  safe_never verdict e cause f = cc (e, f)
+  -- ---- chains
 
-  alarms_never : (verdict : Verdict) (count : ℕ) → verdict ≡ Alarms count → (cause : Refusal) → verdict ≢ Refused cause
-  alarms_never verdict count e cause f = cc (e, f)
+  -- the text spells a chain of which this is said
+  record IsSaidOf (text : List ℕ) (v : chains.Verdict) : Type 0 where
+    pub lines : List Line
+    pub spelled : SpellAll (lines_of text) (Header One Chain ∷ lines)
+    pub said : IsSaid k flow defs lines v
 
-  safe_from : (text : List ℕ) (verdict : Verdict) → IsVerdict k well flow defs (lines_of text) verdict → verdict ≡ Safe → IsCertificate flow defs text
-  safe_from text verdict is e =
-      let h = has_said (lines_of text) verdict (safe_never verdict e) is in
-      to_certificate text h.last h.reading h.ended (safe_form h.last.form h.last.stuck (sym h.said ∙ e))
+  said_document : (text : List ℕ) (v : chains.Verdict) (form : Form) (lines : List Line) (d : Document)
+      → SpellAll (lines_of text) (Header One form ∷ lines) → read_document k flow defs form lines ≡ Ok d → said_of d ≡ verdict_on v
+      → IsSaidOf text v
+  said_document text v Certificate lines d spelled read e =
+      let r = from_read certificate (certificates.reading_lines k.lines k.formed flow defs 2 lines (certificates.begun Certificate)) d
+      (sym (certificates_are_read k flow defs 2 lines (certificates.begun Certificate)) ∙ read) in
+      absurd (chain_unsafe v (sym (ap (λ (x : Document). said_of x) r.2 ∙ e)))
+  said_document text v Chain lines d spelled read e =
+      let r = from_read chain (chains.reading_lines k flow defs 2 lines chains.begun_chain) d
+      (sym (chains_are_read k flow defs 2 lines chains.begun_chain) ∙ read) in
+      record {
+        lines = lines;
+        spelled = spelled;
+        said = record { last = r.0; read = r.1; says = said_once (verdict_of r.0) v (ap (λ (x : Document). said_of x) r.2 ∙ e) };
+      }
 
-  safe_to : (text : List ℕ) (verdict : Verdict) → IsVerdict k well flow defs (lines_of text) verdict → IsCertificate flow defs text → verdict ≡ Safe
-  safe_to text verdict is c = ended_verdict (lines_of text) verdict Certificate [] is (from_certificate text c)
+  -- no line is refused for what a chain is as a whole
+  whole_refused : (texts : List (List ℕ)) (v : chains.Verdict) (cause : Refusal) → IsRefusal k flow defs texts cause → v ≢ chains.ends_early
+      → Refused cause ≢ verdict_on v
+  whole_refused texts (chains.alarms count) cause bad late e = cc e
+  whole_refused texts chains.no_alarm cause bad late e =
+      let is : cause ≡ refusal.NoAlarm = cc e in
+      let none = subst (λ (c : Refusal). IsRefusal k flow defs texts c) is bad in
+      none.refused
+  whole_refused texts chains.unfinished cause bad late e =
+      let is : cause ≡ refusal.Unfinished = cc e in
+      let none = subst (λ (c : Refusal). IsRefusal k flow defs texts c) is bad in
+      none.refused
+  whole_refused texts chains.ends_early cause bad late e = late refl
 
-  abbrev HasAlarms : List ℕ → ℕ → Type 0
-  HasAlarms text count = (stuck : List Path) × IsChain flow defs text stuck × (count ≡ length stuck) × (0 < count)
+  said_from : (text : List ℕ) (verdict : Verdict) (v : chains.Verdict) → v ≢ chains.ends_early → IsVerdict k flow defs (lines_of text) verdict
+      → verdict ≡ verdict_on v → IsSaidOf text v
+  said_from text verdict v late is e = elim is [
+    | inl h ↦ said_document text v h.1.form h.1.lines h.0 h.1.spelled h.1.read (sym h.3 ∙ e)
+    | inr other ↦ absurd (elim other [
+      | inl on ↦ late (sym (said_once chains.ends_early v (sym on.1 ∙ e)))
+      | inr bad ↦ whole_refused (lines_of text) v bad.0 bad.1 late (sym bad.2 ∙ e)
+    ])
+  ]
 
-  alarms_from : (text : List ℕ) (verdict : Verdict) (count : ℕ) → IsVerdict k well flow defs (lines_of text) verdict → verdict ≡ Alarms count → HasAlarms text count
-  alarms_from text verdict count is e =
-      let h = has_said (lines_of text) verdict (alarms_never verdict count e) is in
-      let a = alarms_form h.last.form h.last.stuck count (sym h.said ∙ e) in
-      (h.last.stuck, to_chain text h.last h.reading h.ended a.chain, a.counted, a.some)
+  -- and back: where something holds of its lines exactly where so much is said of it
+  said_to : (text : List ℕ) (verdict : Verdict) (v : chains.Verdict) (Held : List Line → Type 0) (lines all : List Line) → v ≢ chains.ends_early
+      → SpellAll (lines_of text) all → all ≡ Header One Chain ∷ lines → IsSaid k flow defs lines v ↔ Held (Header One Chain ∷ lines) → Held all
+      → IsVerdict k flow defs (lines_of text) verdict → verdict ≡ verdict_on v
+  said_to text verdict v Held lines all late spelled e law held is =
+      let said = law.1 (subst Held e held) in
+      let ended : said.last.stage ≡ chains.finished = ended_by said.last.stage said.last (λ early. late (sym said.says ∙ early)) in
+      ended_verdict (lines_of text) verdict (chain said.last) is (record {
+        reading = record {
+          form = Chain;
+          lines = lines;
+          spelled = subst (λ (ls : List Line). SpellAll (lines_of text) ls) e spelled;
+          read = rw (chains_are_read k flow defs 2 lines chains.begun_chain) (rw said.read refl);
+        };
+        ended = ended;
+      }) ∙ ap (λ (w : chains.Verdict). verdict_on w) said.says
 
-  alarms_to : (text : List ℕ) (verdict : Verdict) (count : ℕ) → IsVerdict k well flow defs (lines_of text) verdict → HasAlarms text count → verdict ≡ Alarms count
-  alarms_to text verdict count is a =
-      ended_verdict (lines_of text) verdict Chain a.0 is (from_chain text a.0 a.1) ∙ said_chain a.0 count a.2 a.3
+  -- ---- by whatever tells what is entailed
 
-  pub tells : (text : List ℕ) (verdict : Verdict) → IsVerdict k well flow defs (lines_of text) verdict → Tells flow defs text verdict
+  module _ (know other : State → Test) (knows : KnowsStates flow defs know) (too : KnowsStates flow defs other) (lines : List Line) where
+    alarms_too : (count : ℕ) → HasAlarms know flow defs lines count → HasAlarms other flow defs lines count
+    alarms_too count (c, final, counted, some) =
+        let d = laws.one know other flow defs lines valid knows too c in
+        (
+          d.0,
+          ap (λ (r : chains.Reading). r.changed) d.1 ∙ final,
+          ap (λ (r : chains.Reading). length r.stuck) d.1 ∙ counted,
+          some,
+        )
+
+    no_alarm_too : HasNoAlarm know flow defs lines → HasNoAlarm other flow defs lines
+    no_alarm_too (c, final, none) =
+        let d = laws.one know other flow defs lines valid knows too c in
+        (d.0, ap (λ (r : chains.Reading). r.changed) d.1 ∙ final, ap (λ (r : chains.Reading). r.stuck) d.1 ∙ none)
+
+    unfinished_too : IsUnfinished know flow defs lines → IsUnfinished other flow defs lines
+    unfinished_too (c, changed) =
+        let d = laws.one know other flow defs lines valid knows too c in
+        (d.0, ap (λ (r : chains.Reading). r.changed) d.1 ∙ changed)
+
+  module _ (text : List ℕ) (verdict : Verdict) (is : IsVerdict k flow defs (lines_of text) verdict) (know : State → Test)
+      (knows : KnowsStates flow defs know) where
+    alarms_are : (count : ℕ) → (verdict ≡ Alarms count) ↔ SpellsAlarms know flow defs text count
+    alarms_are count = (
+      λ e.
+          let s = said_from text verdict (chains.alarms count) (λ early. cc early) is e in
+          record {
+            lines = Header One Chain ∷ s.lines;
+            spelled = s.spelled;
+            holds = alarms_too k.lines.know know right.knows knows (Header One Chain ∷ s.lines) count
+                ((laws.alarms k flow defs s.lines count valid right).0 s.said);
+          },
+      λ s. said_to text verdict (chains.alarms count) (λ lines. HasAlarms k.lines.know flow defs lines count) _ s.lines (λ early. cc early)
+          s.spelled s.holds.0.spelled (laws.alarms k flow defs _ count valid right)
+          (alarms_too know k.lines.know knows right.knows s.lines count s.holds) is,
+    )
+
+    no_alarm_is : (verdict ≡ Refused refusal.NoAlarm) ↔ SpellsNoAlarm know flow defs text
+    no_alarm_is = (
+      λ e.
+          let s = said_from text verdict chains.no_alarm (λ early. cc early) is e in
+          record {
+            lines = Header One Chain ∷ s.lines;
+            spelled = s.spelled;
+            holds = no_alarm_too k.lines.know know right.knows knows (Header One Chain ∷ s.lines)
+                ((laws.no_alarm k flow defs s.lines valid right).0 s.said);
+          },
+      λ s. said_to text verdict chains.no_alarm (HasNoAlarm k.lines.know flow defs) _ s.lines (λ early. cc early)
+          s.spelled s.holds.0.spelled (laws.no_alarm k flow defs _ valid right)
+          (no_alarm_too know k.lines.know knows right.knows s.lines s.holds) is,
+    )
+
+    unfinished_is : (verdict ≡ Refused refusal.Unfinished) ↔ SpellsUnfinished know flow defs text
+    unfinished_is = (
+      λ e.
+          let s = said_from text verdict chains.unfinished (λ early. cc early) is e in
+          record {
+            lines = Header One Chain ∷ s.lines;
+            spelled = s.spelled;
+            holds = unfinished_too k.lines.know know right.knows knows (Header One Chain ∷ s.lines)
+                ((laws.unfinished k flow defs s.lines valid right).0 s.said);
+          },
+      λ s. said_to text verdict chains.unfinished (IsUnfinished k.lines.know flow defs) _ s.lines (λ early. cc early)
+          s.spelled s.holds.0.spelled (laws.unfinished k flow defs _ valid right)
+          (unfinished_too know k.lines.know knows right.knows s.lines s.holds) is,
+    )
+
+  pub tells : (text : List ℕ) (verdict : Verdict) → IsVerdict k flow defs (lines_of text) verdict → Tells flow defs text verdict
   tells text verdict is = record {
     safe = (safe_from text verdict is, safe_to text verdict is);
-    alarms = λ (count : ℕ). (alarms_from text verdict count is, alarms_to text verdict count is);
+    alarms = λ know count knows. alarms_are text verdict is know knows count;
+    no_alarm = λ know knows. no_alarm_is text verdict is know knows;
+    unfinished = λ know knows. unfinished_is text verdict is know knows;
   }
 
-  pub if_tells : (text : List ℕ) (r : Result Verdict AllocError) → IfOk r (IsVerdict k well flow defs (lines_of text)) → IfOk r (Tells flow defs text)
+  pub if_tells : (text : List ℕ) (r : Result Verdict AllocError) → IfOk r (IsVerdict k flow defs (lines_of text)) → IfOk r (Tells flow defs text)
   if_tells text (Ok verdict) is = tells text verdict is
   if_tells text (Err e) is = tt

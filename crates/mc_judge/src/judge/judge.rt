@@ -17,7 +17,7 @@ use crate::judge::stage::{Stage, next_stage};
 use crate::judge::{Refusal, Verdict};
 use mc_base::NoMemory;
 use mc_flow::{Defs, Flow};
-use mc_joins::chains::{chain_judges_agree, joint_atoms_are_there, legal_chains_are_read};
+use mc_joins::chains::{chain_judges_agree, legal_chains_are_read};
 use mc_kernel::reading::documents_are_read;
 use mc_lines::cert::{line_is_spelled_once, spelled_lines_are_read};
 use std::alloc::{AllocError, Global};
@@ -164,7 +164,6 @@ impl<'f> Judge<'f> {
         documents_are_read();
         legal_chains_are_read();
         chain_judges_agree();
-        joint_atoms_are_there();
         let Judge {
             alloc,
             flow,

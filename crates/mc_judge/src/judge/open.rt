@@ -1,10 +1,10 @@
 // Open documents of both forms.
-ghost use Rattle.std.specs.Prelude.{◌≡◌, IfErr, IfOk};
+ghost use Rattle.std.specs.Prelude.{◌≡◌, IfErr, IfOk, length};
 ghost use Rattle.mc_flow.specs.Valid.{IsValid};
-ghost use Rattle.mc_joins.specs.Chains.Judges.{Lore};
+ghost use Rattle.mc_joins.specs.Chains.Judges.{Lore, Reading as Chain, finished, verdict_of};
 ghost use Rattle.mc_joins.specs.Chains.Laws.{IsRight};
 ghost use Rattle.mc_judge.specs.Documents.{Document, IsEnded, StandsAs, StandsFor, Takes, begun};
-ghost use Rattle.mc_judge.specs.Judge.Verdicts.{said_of};
+ghost use Rattle.mc_judge.specs.Judge.Verdicts.{said_of, verdict_on};
 
 use crate::judge::{Refusal, Verdict};
 use crate::passes::{Passes, WholeChain};
@@ -21,7 +21,10 @@ pub enum OpenDocument<'f> {
 }
 
 /// What is said of a whole chain.
-fn said(chain: WholeChain) -> Verdict {
+fn said(chain: WholeChain) -> Verdict
+    ensures { (r : Chain) → r.stage ≡ finished → chain.alarms ≡ length r.stuck → chain.changed ≡ r.changed
+        → result ≡ verdict_on (verdict_of r) }
+{
     if chain.changed {
         return Verdict::Refused(Refusal::Unfinished);
     }
@@ -53,12 +56,18 @@ impl<'f> OpenDocument<'f> {
     pub fn apply(&mut self, line: &Line) -> Result<(), ApplyFault>
         ensures { Takes line.now self.old self.new result }
     {
-        // For the proof alone: a document is kept line by line.
+        // For the proof alone: a document of a valid flow graph is kept line by line.
         mc_kernel::reading::lines_are_read();
         mc_joins::chains::lines_are_read();
         match self {
-            OpenDocument::Certificate(proof) => proof.apply(line),
-            OpenDocument::Chain(passes) => passes.apply(line),
+            OpenDocument::Certificate(proof) => {
+                proof.is_held();
+                proof.apply(line)
+            }
+            OpenDocument::Chain(passes) => {
+                passes.is_held();
+                passes.apply(line)
+            }
         }
     }
 

@@ -1,10 +1,8 @@
 -- C2 and C3 are judged by their premises, one after the other.
-use Rattle.std.proofs.Common.{◌≡◌, ◌↔◌, ℕ, ℤ, List, [], ◌∷◌, Bool, true, false, Option, Some, None, length, slice_get, refl, ap, sym, ◌∙◌, subst, Ok, Err}
+use Rattle.std.proofs.Common.{◌≡◌, ◌↔◌, ℕ, ℤ, List, ◌∷◌, Bool, true, false, Option, Some, None, length, slice_get, refl, ap, sym, ◌∙◌, subst, Ok, Err}
 use Rattle.std.specs.Prelude.{◌&&◌, ◌==◌, not}
 use Rattle.std.specs.List.{AllByRecursion, list_all}
-use Rattle.mc_base.specs.declared.plain.VarInfo.{VarInfo}
 use Rattle.mc_flow.specs.declared.defs.rules.Def.{Def}
-use Rattle.mc_flow.specs.declared.defs.shapes.StructInfo.{StructInfo}
 use Rattle.mc_flow.specs.declared.graph.Flow.{Flow}
 use Rattle.mc_state.specs.declared.line.JoinStep.{JoinStep}
 use Rattle.mc_state.specs.Facts.{IsTidy}
@@ -17,14 +15,13 @@ use Rattle.mc_state.proofs.Lists.{all_both as both_hold, all_at, all_map}
 use Rattle.mc_joins.specs.Alike.Named.{AllNamed, AreSameBySome}
 use Rattle.mc_joins.specs.Joinings.{Joining}
 use Rattle.mc_joins.specs.Laws.{JoinsAreDetermined, JoinsMakeWell, JoinsNameAll, MadeAreTold}
-use Rattle.mc_joins.specs.Parts.{Basis}
 use Rattle.mc_joins.specs.Same.Same.{anew}
 use Rattle.mc_joins.specs.Whole.{Joins}
 use Rattle.mc_joins.specs.Chains.Judges.{Lore, basis, whole_join, gets_stuck, given_by}
 use Rattle.mc_joins.specs.Chains.Laws.{Made, IsRight}
 use Rattle.mc_joins.proofs.ChainsLemmas.Judging.{all_from, all_to}
-use Rattle.mc_replay.specs.Changes.{AreMadeFor, ForTests, IsJoined, opened_state, rejoined_state}
-use Rattle.mc_replay.specs.Named.{IsGood, TellsFrom}
+use Rattle.mc_replay.specs.Changes.{AreMadeFor, ForTestsOf, IsJoined, opened_state, rejoined_state}
+use Rattle.mc_replay.specs.Whole.{AreOfOne, MayJoin, TellsOf}
 use Rattle.mc_replay.proofs.ChangesLemmas.Replays.{whole_done}
 
 -- two tests of one fact
@@ -37,38 +34,39 @@ same_test false false h g = refl
 -- ---- what is known of the states
 
 module _ (defs : List Def) (own : State) (lefts : List State) (all : AreMadeFor defs (own ∷ lefts)) where
-  good : (s : State) → IsWellMade defs all.vars all.structs s → IsTidy s → IsGood s
-  good s made tidy = record { made = (defs, all.vars, all.structs, made); consistent = tidy.consistent }
+  abbrev Made_here : State → Type 0
+  Made_here s = IsWellMade defs all.vars all.structs s
 
-  pub own_good : IsTidy own → IsGood own
-  own_good tidy = good own all.made.0 tidy
+  abbrev two : (left : State) → Made_here left → AreOfOne defs left own
+  two left made = record { vars = all.vars; structs = all.structs; left_made = made; right_made = all.made.0 }
 
-  pub lefts_good : AllByRecursion IsTidy lefts → AllByRecursion IsGood lefts
-  lefts_good tidy = both_hold (IsWellMade defs all.vars all.structs) IsTidy IsGood good lefts all.made.1 tidy
+  module _ (own_tidy : IsTidy own) where
+    may : (left : State) → Made_here left → IsTidy left → MayJoin defs left own
+    may left made tidy = record { program = two left made; left_consistent = tidy.consistent; right_consistent = own_tidy.consistent }
 
-  pub left_good : (j : ℕ) (left : State) → slice_get lefts j ≡ Some left → IsTidy left → IsGood left
-  left_good j left there tidy = good left (all_at (IsWellMade defs all.vars all.structs) lefts j left there all.made.1) tidy
+    pub may_all : AllByRecursion IsTidy lefts → AllByRecursion (λ (left : State). MayJoin defs left own) lefts
+    may_all tidy = both_hold Made_here IsTidy (λ (left : State). MayJoin defs left own) may lefts all.made.1 tidy
+
+    pub may_one : (j : ℕ) (left : State) → slice_get lefts j ≡ Some left → IsTidy left → MayJoin defs left own
+    may_one j left there tidy = may left (all_at Made_here lefts j left there all.made.1) tidy
 
   -- what a whole join gives has no node that is not named
   pub join_named : MadeAreTold → JoinsNameAll → (round : ℕ) (thresholds : List ℤ) (j : ℕ) (left : State) (steps : List JoinStep) (t : State) → slice_get lefts j ≡ Some left
-      → ForTests defs (left ∷ own ∷ []) (IsJoined round thresholds left own steps (Some t)) → AllNamed t
+      → ForTestsOf defs left own (IsJoined round thresholds left own steps (Some t)) → AllNamed t
   join_named told names round thresholds j left steps t there joins =
-      let left_made = all_at (IsWellMade defs all.vars all.structs) lefts j left there all.made.1 in
+      let left_made = all_at Made_here lefts j left there all.made.1 in
       let know = told defs all.vars all.structs in
       names defs all.vars all.structs know.0 round thresholds left own steps t know.1 left_made all.made.0
-      (joins (record { know = know.0; defs = defs }) refl (
-        record { vars = all.vars; structs = all.structs; knows = know.1; made = left_made },
-        (record { vars = all.vars; structs = all.structs; knows = know.1; made = all.made.0 }, tt),
-      ))
+      (joins (record { know = know.0; defs = defs }) refl (record { program = two left left_made; knows = know.1 }))
 
 -- ---- premises
 
 module _ (k : Lore) (flow : Flow) (defs : List Def) (right : IsRight k flow defs) (own : State) (lefts : List State) (made : AllByRecursion (Made flow defs) (own ∷ lefts)) where
-  tells : (s : State) → Made flow defs s → TellsFrom (basis k defs) s
-  tells s m = record { vars = flow.vars; structs = flow.structs.list; knows = right.knows; made = m }
+  tells : (left : State) → Made flow defs left → TellsOf (basis k defs) left own
+  tells left m = record { program = record { vars = flow.vars; structs = flow.structs.list; left_made = m; right_made = made.0 }; knows = right.knows }
 
-  pub all_tell : AllByRecursion (TellsFrom (basis k defs)) (own ∷ lefts)
-  all_tell = all_map (Made flow defs) (TellsFrom (basis k defs)) tells (own ∷ lefts) made
+  pub all_tell : AllByRecursion (λ (left : State). TellsOf (basis k defs) left own) lefts
+  all_tell = all_map (Made flow defs) (λ (left : State). TellsOf (basis k defs) left own) tells lefts made.1
 
   abbrev both_tidy : Bool
   both_tidy = k.tidy own && list_all k.tidy lefts
@@ -122,8 +120,8 @@ module _ (k : Lore) (flow : Flow) (defs : List Def) (right : IsRight k flow defs
       both_are : (k.tidy own && k.tidy left) ≡ true
       both_are = two_tidy true (λ e. tidy_too, λ a. refl)
 
-      pub two_tell : AllByRecursion (TellsFrom (basis k defs)) (left ∷ own ∷ [])
-      two_tell = (tells left left_made, (tells own made.0, tt))
+      pub two_tell : TellsOf (basis k defs) left own
+      two_tell = tells left left_made
 
       pub rejoined_none : whole_join (basis k defs) left own steps ≡ None → Err 5 ≡ rejoined_state k defs round lefts j steps own
       rejoined_none none = sym (rejoined_by true None both_are none)

@@ -1,29 +1,28 @@
 -- What the answer of a replay says of prefixes and of whole joins.
-use Rattle.std.proofs.Common.{◌≡◌, ◌-◌, ◌<◌, ℕ, zero, suc, List, [], ◌∷◌, Bool, true, false, Option, Some, None, slice_get, take, refl, ap, sym, ◌∙◌}
+use Rattle.std.proofs.Common.{◌≡◌, ◌≢◌, ℕ, List, [], ◌∷◌, ◌++◌, Bool, true, false, Option, Some, None, refl, ap, sym, ◌∙◌}
 use Rattle.std.specs.Prelude.{◌&&◌, is_none, is_some, option_and_then, if◌then◌else◌}
 use Rattle.std.specs.List.{list_all}
 use Rattle.mc_state.specs.declared.line.JoinStep.{JoinStep}
 use Rattle.mc_state.specs.State.{State}
+use Rattle.mc_pure_ops.specs.Join.Joint.{Pairs}
 use Rattle.mc_joins.specs.Joinings.{Joining, Pair, begun, next_pair}
 use Rattle.mc_joins.specs.Parts.{Basis}
 use Rattle.mc_joins.specs.Steps.{after_step, after_steps, all_steps, is_stuck}
 use Rattle.mc_joins.specs.Chains.Judges.{whole_join, gets_stuck}
-use Rattle.mc_replay.specs.Replayed.{AreOpen, IsWrong}
+use Rattle.mc_replay.specs.Replayed.{IsOpen, IsWrong}
 
 -- steps that lead to one that does not apply lead nowhere
-past_none : (w : Basis) (j : Joining) (n : ℕ) (steps : List JoinStep) (mid : Joining) (step : JoinStep) → after_steps w j (take n steps) ≡ Some mid → slice_get steps n ≡ Some step
-    → after_step w mid step ≡ None → after_steps w j steps ≡ None
-past_none w j n [] mid step reached is refused = absurd (cc is)
-past_none w j zero (s ∷ steps) mid step reached is refused =
+past_none : (w : Basis) (j : Joining) (before : List JoinStep) (step : JoinStep) (after : List JoinStep) (mid : Joining) → after_steps w j before ≡ Some mid → after_step w mid step ≡ None
+    → after_steps w j (before ++ step ∷ after) ≡ None
+past_none w j [] step after mid reached refused =
     let same : j ≡ mid = cc reached in
-    let own : s ≡ step = cc is in
-    ap (option_and_then (λ next. after_steps w next steps)) (ap (λ (z : Joining). after_step w z s) same ∙ (ap (after_step w mid) own ∙ refused))
-past_none w j (suc n) (s ∷ steps) mid step reached is refused = at (λ next r. past_none w next n steps mid step r is refused) (after_step w j s) refl reached
+    ap (option_and_then (λ next. after_steps w next after)) (ap (λ (z : Joining). after_step w z step) same ∙ refused)
+past_none w j (s ∷ before) step after mid reached refused = at (λ next r. past_none w next before step after mid r refused) (after_step w j s) reached
   where
-    at : ((next : Joining) → after_steps w next (take n steps) ≡ Some mid → after_steps w next steps ≡ None) → (o : Option Joining) → after_step w j s ≡ o
-        → option_and_then (λ next. after_steps w next (take n steps)) o ≡ Some mid → option_and_then (λ next. after_steps w next steps) (after_step w j s) ≡ None
-    at rest None e reached = ap (option_and_then (λ next. after_steps w next steps)) e
-    at rest (Some next) e reached = ap (option_and_then (λ next. after_steps w next steps)) e ∙ rest next reached
+    at : ((next : Joining) → after_steps w next before ≡ Some mid → after_steps w next (before ++ step ∷ after) ≡ None) → (o : Option Joining)
+        → option_and_then (λ next. after_steps w next before) o ≡ Some mid → option_and_then (λ next. after_steps w next (before ++ step ∷ after)) o ≡ None
+    at rest None reached = refl
+    at rest (Some next) reached = rest next reached
 
 module _ (w : Basis) (left right : State) (steps : List JoinStep) where
   abbrev to_stuck : Joining → Option Joining
@@ -33,7 +32,7 @@ module _ (w : Basis) (left right : State) (steps : List JoinStep) where
   to_end last = if is_none (next_pair last) then Some last else None
 
   pub wrong_none : (number : ℕ) → IsWrong w left right steps number → after_steps w (begun left right) steps ≡ None
-  wrong_none number r = past_none w (begun left right) (number - 1) steps r.mid r.step r.reached r.is r.refused
+  wrong_none number r = ap (after_steps w (begun left right)) r.steps_are ∙ past_none w (begun left right) r.before r.step r.after r.last r.reached r.refused
 
   -- ---- prefixes after which no step applies
 
@@ -44,7 +43,7 @@ module _ (w : Basis) (left right : State) (steps : List JoinStep) where
       kept true = refl
       kept false = refl
 
-  pub stuck_open : (pairs : List Pair) (stuck : Bool) → AreOpen w left right steps pairs stuck → stuck ≡ gets_stuck w right left steps
+  pub stuck_open : (pairs : Pairs) (stuck : Bool) → IsOpen w left right steps pairs stuck → stuck ≡ gets_stuck w right left steps
   stuck_open pairs stuck r = sym (stuck_by r.last r.reached stuck (sym r.stuck_is))
 
   pub stuck_done : (last : Joining) → after_steps w (begun left right) steps ≡ Some last → next_pair last ≡ None → false ≡ gets_stuck w right left steps
@@ -55,9 +54,12 @@ module _ (w : Basis) (left right : State) (steps : List JoinStep) where
 
   -- ---- whole joins
 
-  pub whole_open : (last : Joining) (next : Pair) → after_steps w (begun left right) steps ≡ Some last → next_pair last ≡ Some next → whole_join w left right steps ≡ None
-  whole_open last next reached there =
-      ap (option_and_then to_end) reached ∙ ap (λ (o : Option Pair). if is_none o then Some last else None) there
+  pub whole_open : (last : Joining) → after_steps w (begun left right) steps ≡ Some last → next_pair last ≢ None → whole_join w left right steps ≡ None
+  whole_open last reached more = ap (option_and_then to_end) reached ∙ at (next_pair last) more
+    where
+      at : (o : Option Pair) → o ≢ None → (if is_none o then Some last else None) ≡ None
+      at None some = absurd (some refl)
+      at (Some p) some = refl
 
   pub whole_none : after_steps w (begun left right) steps ≡ None → whole_join w left right steps ≡ None
   whole_none none = ap (option_and_then to_end) none

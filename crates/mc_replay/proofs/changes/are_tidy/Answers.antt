@@ -1,4 +1,4 @@
-use Rattle.std.proofs.Common.{◌≡◌, ◌<◌, Bool, true, false, ◌≤◌, length, refl, sym, ◌∙◌, subst, arith}
+use Rattle.std.proofs.Common.{◌≡◌, ◌<◌, true, false, ◌≤◌, length, refl, sym, ◌∙◌, subst, arith}
 use denote.Bor.{Bor}
 use Rattle.mc_state.specs.Facts.{IsTidy}
 use Rattle.mc_state.specs.State.{State}

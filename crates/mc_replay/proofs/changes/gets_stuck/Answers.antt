@@ -3,15 +3,15 @@ use Rattle.mc_replay.proofs.changes.gets_stuck.Goals as goal
 
 pub returns-in-Done : goal.returns-in-Done
 returns-in-Done c w e tells =
-    let r = rw c.in-Done.is at (c.in_ok-replay.ensures w e tells.0 tells.1.0) in
+    let r = rw c.in-Done.is at (c.in_ok-replay.ensures w e tells) in
     stuck_done w c.args.left.now c.args.own.now c.args.steps.now r.last r.reached r.done
 
 pub returns-in-Open : goal.returns-in-Open
 returns-in-Open c w e tells =
-    let r = rw c.in-Open.is at (c.in_ok-replay.ensures w e tells.0 tells.1.0) in
+    let r = rw c.in-Open.is at (c.in_ok-replay.ensures w e tells) in
     stuck_open w c.args.left.now c.args.own.now c.args.steps.now _ c.in-Open.stuck r
 
 pub returns : goal.returns
 returns c w e tells =
-    let r = rw c.in-Wrong.is at (c.in_ok-replay.ensures w e tells.0 tells.1.0) in
+    let r = rw c.in-Wrong.is at (c.in_ok-replay.ensures w e tells) in
     stuck_none w c.args.left.now c.args.own.now c.args.steps.now (wrong_none w c.args.left.now c.args.own.now c.args.steps.now c.in-Wrong.field-0 r)

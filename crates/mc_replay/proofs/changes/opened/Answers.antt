@@ -2,16 +2,12 @@ use Rattle.std.proofs.Common.{◌≡◌, true, length, refl, sym, ◌∙◌, eq-
 use Rattle.std.proofs.lemmas.List.{length-map}
 use Rattle.std.specs.Prelude.{◌==◌}
 use Rattle.mc_replay.specs.Changes.{states_held}
-use Rattle.mc_replay.proofs.ChangesLemmas.Judged.{own_good, lefts_good, all_tell, opened_untidy, opened_free, opened_all}
+use Rattle.mc_replay.proofs.ChangesLemmas.Judged.{may_all, all_tell, opened_untidy, opened_free, opened_all}
 use Rattle.mc_replay.proofs.changes.opened.Goals as goal
 
-pub all_get_stuck-requires-clause-lefts : goal.all_get_stuck-requires-clause-lefts
-all_get_stuck-requires-clause-lefts c =
-    lefts_good c.args.defs.now c.args.own.now (states_held c.args.lefts.now) c.requires (c.in_ok-are_tidy.ensures.0 c.if-not-branch-2.false)
-
-pub all_get_stuck-requires-clause-own : goal.all_get_stuck-requires-clause-own
-all_get_stuck-requires-clause-own c =
-    own_good c.args.defs.now c.args.own.now (states_held c.args.lefts.now) c.requires (c.in_ok-is_tidy.ensures.0 c.if-not-branch.false)
+pub all_get_stuck-requires-clause-states : goal.all_get_stuck-requires-clause-states
+all_get_stuck-requires-clause-states c =
+    may_all c.args.defs.now c.args.own.now (states_held c.args.lefts.now) c.requires (c.in_ok-is_tidy.ensures.0 c.if-not-branch.false) (c.in_ok-are_tidy.ensures.0 c.if-not-branch-2.false)
 
 pub returns-then-not-branch-2 : goal.returns-then-not-branch-2
 returns-then-not-branch-2 c k flow right made =

@@ -1,0 +1,4 @@
+pub mod Places
+pub mod Ready
+pub mod Put
+pub mod Read
