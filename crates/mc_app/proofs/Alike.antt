@@ -1,5 +1,5 @@
 -- The document that an analysis has left is judged as the analysis ended.
-use Rattle.std.proofs.Common.{◌≡◌, ◌∙◌, ◌≤◌, ℕ, Bool, List, [], ◌∷◌, Option, Some, inl, inr, refl, sym, ap, subst, length, arith}
+use Rattle.std.proofs.Common.{◌≡◌, ◌∙◌, ◌≤◌, ℕ, Bool, List, Option, Some, inl, inr, refl, sym, ap, subst, length, arith}
 use Rattle.std.specs.Prelude.{None, Ok, Err}
 use Rattle.mc_find.specs.declared.analysis.analysis.Analysis.{Analysis}
 use Rattle.mc_find.specs.declared.analysis.analysis.Analysis.TheVariants as analysis

@@ -1,13 +1,11 @@
 -- Chains of one pass, and final legal chains of several.
-use Rattle.std.proofs.Common.{◌≡◌, ◌∙◌, ℕ, Bool, List, sym, ap, subst, length}
+use Rattle.std.proofs.Common.{◌≡◌, ◌∙◌, ℕ, Bool, List, sym, ap, length}
 use Rattle.mc_flow.specs.declared.defs.rules.Def.{Def}
 use Rattle.mc_flow.specs.declared.graph.Flow.{Flow}
 use Rattle.mc_flow.specs.Valid.{IsValid}
-use Rattle.mc_lines.specs.Cert.Lines.{lines_of}
 use Rattle.mc_state.specs.Known.{Test}
 use Rattle.mc_state.specs.State.{State}
 use Rattle.mc_kernel.specs.Branches.{Path}
-use Rattle.mc_document.specs.Spelled.{SpellAll}
 use Rattle.mc_find.specs.Analysis.Findings.{HasAlarms}
 use Rattle.mc_find.specs.declared.analysis.analysis.Findings.{Findings}
 use Rattle.mc_joins.specs.Chains.Chains.{KnowsStates}

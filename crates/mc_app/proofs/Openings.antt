@@ -1,14 +1,13 @@
 -- A chain of one pass that has not ended goes on as a chain of several passes.
-use Rattle.std.proofs.Common.{◌≡◌, ◌∙◌, ℕ, zero, suc, Bool, false, List, [], ◌∷◌, refl, ap, subst}
+use Rattle.std.proofs.Common.{◌≡◌, ◌∙◌, ℕ, suc, Bool, false, List, [], ◌∷◌, refl, ap, subst}
 use Rattle.std.specs.Prelude.{Result, Ok, Err, ◌||◌}
 use Rattle.mc_lines.specs.declared.cert.line.Line.{Line}
-use Rattle.mc_lines.specs.declared.cert.line.Line.TheVariants.{Header, C2, C3}
+use Rattle.mc_lines.specs.declared.cert.line.Line.TheVariants.{C2, C3}
 use Rattle.mc_flow.specs.declared.defs.rules.Def.{Def}
 use Rattle.mc_flow.specs.declared.graph.Flow.{Flow}
 use Rattle.mc_state.specs.Premises.{Judged, then_give}
 use Rattle.mc_state.proofs.Numbered.{have_ok}
 use Rattle.mc_state.specs.declared.line.Form.TheVariants.{Chain}
-use Rattle.mc_state.specs.declared.line.Version.TheVariants.{One}
 use Rattle.mc_kernel.specs.Readings as kernel
 use Rattle.mc_kernel.specs.Readings.{first_branch, ready}
 use Rattle.mc_kernel.specs.Reading.Documents.{IsJudge}
@@ -16,10 +15,10 @@ use Rattle.mc_follow.specs.Alarms.Outcomes.{IsFront}
 use Rattle.mc_document.specs.Spelled.{SpellAll}
 use Rattle.mc_joins.specs.Chains.Chains.{changes, changes_some}
 use Rattle.mc_joins.specs.Chains.InOrder.{behind, in_order}
-use Rattle.mc_joins.specs.Chains.Judges.{Lore, Reading, Stage, begun_chain, finished, reading_chain, reading_line, reading_lines}
+use Rattle.mc_joins.specs.Chains.Judges.{Lore, Reading, begun_chain, finished, reading_chain, reading_line, reading_lines}
 use Rattle.mc_joins.specs.Chains.Laws.{IsRight}
 use Rattle.mc_joins.specs.Chains.Short.{ShortReadingsAgree, as_chain, seen_as_chain, stage_of}
-use Rattle.mc_judge.specs.Documents.{Document, chain, read_document, read_line}
+use Rattle.mc_judge.specs.Documents.{Document, chain, read_line}
 use Rattle.mc_judge.specs.Judge.Verdicts.{GoesOn}
 
 -- ---- lines of chains of one pass

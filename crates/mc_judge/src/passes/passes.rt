@@ -21,7 +21,7 @@ use mc_flow::{Defs, Flow};
 use mc_joins::chains::{lores_are_there, numbering_makes_well};
 use mc_joins::joins_make_well;
 use mc_lines::cert::Line;
-use mc_replay::changes::{changes_are_parted, opened, rejoined};
+use mc_replay::{changes_are_parted, opened, rejoined};
 use mc_state::{Form, JoinStep};
 use mc_symbolic::State;
 use std::alloc::Global;
@@ -266,7 +266,7 @@ impl<'f> Passes<'f> {
             self.proof.flow().thresholds.as_slice(),
         )? {
             Ok(state) => Ok((place, state)),
-            Err(premise) => Err(ApplyFault::Premise(premise)),
+            Err(unmet) => Err(ApplyFault::Premise(unmet)),
         }
     }
 

@@ -44,5 +44,5 @@ returns-clause-faults g c = λ bytes h.
     let v = c.in_ok-verdict.verdict in
     let told = told_verdict flow defs judge same_flow same_defs heard.0 heard.1 v known.0 known.1 c.in_ok-verdict.ensures.tells in
     let whole = heard.2 bytes (c.size.ensures.same c.args.name.now ∙ h) (c.in_ok-size.ensures.size bytes h) in
-    subst (λ (t : List ℕ). AlarmsAreFound flow defs t v) whole 
+    subst (λ (t : List ℕ). AlarmsAreFound flow defs t v) whole
     (alarms_found flow defs known.0.lines.know known.1.knows c.final_chains_find_faults.ensures.faults c.chain_judges_agree.ensures.legal c.requires heard.0 v told)
