@@ -1,6 +1,6 @@
 -- The last of a list.
 use Rattle.std.proofs.Common.{◌≡◌, ◌-◌, ◌∙◌, ℕ, suc, List, [], ◌∷◌, length, map, arith, ap, sym, subst}
-use Rattle.std.specs.Prelude.{Option, Some, None, nat_lt, slice_get}
+use Rattle.std.specs.Prelude.{Option, Some, nat_lt, slice_get}
 use Rattle.std.proofs.Math.Dec.{leb, leb-suc-suc}
 use Rattle.mc_base.specs.declared.ids.PointId.{PointId}
 use Rattle.mc_kernel.specs.Readings.{comes_after}

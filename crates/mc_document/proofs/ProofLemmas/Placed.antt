@@ -1,5 +1,5 @@
 -- States that are put among those of cuts, where the first branch ends.
-use Rattle.std.proofs.Common.{◌≡◌, ℕ, zero, suc, List, [], ◌∷◌, Option, Some, None, drop, insert, map, option_map, refl, sym, ◌∙◌, ap, subst}
+use Rattle.std.proofs.Common.{◌≡◌, ℕ, zero, suc, List, [], ◌∷◌, Some, drop, insert, map, option_map, refl, sym, ◌∙◌, ap, subst}
 use Rattle.std.specs.Prelude.{Ok, slice_set}
 use Rattle.std.specs.List.{AllByRecursion}
 use Rattle.mc_flow.specs.declared.defs.rules.Def.{Def}

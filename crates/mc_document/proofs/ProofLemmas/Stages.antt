@@ -1,5 +1,5 @@
 -- What lines become at each stage.
-use Rattle.std.proofs.Common.{◌≡◌, ℕ, List, Bool, true, false, refl, ap, sym, subst}
+use Rattle.std.proofs.Common.{◌≡◌, Bool, true, false, refl, ap, sym, subst}
 use Rattle.std.specs.Prelude.{Result, Ok, Err}
 use Rattle.mc_lines.specs.declared.cert.line.Line.{Line}
 use Rattle.mc_state.specs.Premises.{Judged, need}

@@ -245,6 +245,15 @@ impl<'f> Proof<'f> {
         }
     }
 
+    /// The branches of the entry and of the states of cuts as they are are open.
+    fn open_roots(&mut self) -> Result<(), ApplyFault>
+        ensures { ComesTo (Ok (ruled_at self.old (all_roots self.old.flow self.old.heads))) self.old self.new result }
+    {
+        self.branches = roots(self.alloc, self.flow, self.heads.as_slice())?;
+        self.stage = Stage::Ruling;
+        Ok(())
+    }
+
     /// A pass: the first one opens the entry and the heads.
     fn pass(&mut self) -> Result<(), ApplyFault>
         ensures { ComesTo (passing_at self.old) self.old self.new result }
@@ -255,17 +264,14 @@ impl<'f> Proof<'f> {
         if is_ruling(self.stage) {
             return Err(ApplyFault::Premise(3));
         }
-        self.branches = roots(self.alloc, self.flow, self.heads.as_slice())?;
-        self.stage = Stage::Ruling;
-        Ok(())
+        self.open_roots()
     }
 
     /// A pass begins: the branches of the entry and of the states of cuts as they are are open, and none is stuck.
     pub fn reopen(&mut self) -> Result<(), ApplyFault>
         ensures { ComesTo (Ok (reopened_at self.old)) self.old self.new result }
     {
-        self.branches = roots(self.alloc, self.flow, self.heads.as_slice())?;
-        self.stage = Stage::Ruling;
+        self.open_roots()?;
         self.stuck = 0;
         Ok(())
     }

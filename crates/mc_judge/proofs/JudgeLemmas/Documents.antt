@@ -1,5 +1,5 @@
 -- Documents of which some lines are spelled and read.
-use Rattle.std.proofs.Common.{◌≡◌, ◌≢◌, ◌⊎◌, inl, inr, ◌+◌, ℕ, suc, List, [], ◌∷◌, ◌++◌, length, refl, sym, ◌∙◌, ap, subst}
+use Rattle.std.proofs.Common.{◌≡◌, ◌⊎◌, inl, inr, ◌+◌, ℕ, suc, List, [], ◌∷◌, ◌++◌, length, refl, sym, ◌∙◌, ap, subst}
 use Rattle.std.specs.Prelude.{Result, Ok, Err}
 use Rattle.mc_lines.specs.declared.cert.fault.LineFault.{LineFault}
 use Rattle.mc_lines.specs.declared.cert.fault.LineFault.TheVariants as faults
@@ -218,7 +218,8 @@ module _ (k : Lore) (flow : Flow) (defs : List Def) where
     not_refused are_read texts d cause i bad =
         let spelled : SpellAll (bad.before ++ bad.text ∷ bad.later) (Header One i.form ∷ i.lines) =
         subst (λ (ts : List (List ℕ)). SpellAll ts (Header One i.form ∷ i.lines)) bad.spelled i.spelled in
-        refused_read are_read bad.before bad.text i.form i.lines d cause i.read (split bad.before bad.text bad.later (Header One i.form ∷ i.lines) spelled) bad.refused
+        refused_read are_read bad.before bad.text i.form i.lines d cause i.read
+        (split bad.before bad.text bad.later (Header One i.form ∷ i.lines) spelled) bad.refused
 
   -- ---- what is refused stays so
 

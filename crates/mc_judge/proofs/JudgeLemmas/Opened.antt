@@ -1,5 +1,5 @@
 -- Lines that are applied to open documents.
-use Rattle.std.proofs.Common.{◌≡◌, List, sym, ◌∙◌, ap, refl, subst}
+use Rattle.std.proofs.Common.{◌≡◌, List, sym, ◌∙◌, ap, subst}
 use Rattle.std.specs.Prelude.{Result, Ok, Err}
 use Rattle.mc_lines.specs.declared.cert.line.Line.{Line}
 use Rattle.mc_flow.specs.declared.defs.rules.Def.{Def}
@@ -20,7 +20,7 @@ use Rattle.mc_joins.specs.Chains.Read.{IsKept}
 use Rattle.mc_joins.specs.Chains.ReadLaws.{LinesKeepChains}
 use Rattle.mc_judge.specs.declared.judge.open.OpenDocument.TheVariants as opened
 use Rattle.mc_judge.specs.declared.passes.passes.Passes.{Passes}
-use Rattle.mc_judge.specs.Documents.{Document, certificate, chain, IsRefusedHere, IsTaken, StandsFor, Takes}
+use Rattle.mc_judge.specs.Documents.{certificate, chain, IsRefusedHere, IsTaken, Takes}
 use Rattle.mc_judge.specs.Passes.Positions as passes
 use Rattle.mc_judge.specs.Passes.Positions.{passes_of}
 
@@ -37,8 +37,7 @@ module _ (keep : LinesKeep) (l : Line) (old new : Position) (valid : IsValid old
       let a = applied k.lines k.formed r s.stands in
       let kept = keep k.lines k.formed old.flow old.defs l r a.0 valid s.stands.judge s.stands.kept a.1 in
       let flows : old.flow ≡ new.flow = ap (λ (p : Position). p.flow) a.2 in
-      let all : old.defs ≡ new.defs = ap (λ (p : Position). p.defs) a.2 in
-      (
+      let all : old.defs ≡ new.defs = ap (λ (p : Position). p.defs) a.2 in (
         certificate a.0,
         move (λ (f : Flow) (ds : List Def). then_give certificate (certificates.reading_line k.lines k.formed f ds l r) ≡ Ok (certificate a.0))
             old.flow flow old.defs defs s.flow_is s.defs_are (ap (then_give certificate) a.1),
@@ -74,8 +73,7 @@ module _ (keep : LinesKeepChains) (l : Line) (old new : Passes) (valid : IsValid
       let a = applied k r s.stands in
       let kept = keep k old.proof.flow old.proof.defs l r a.0 valid s.stands.right s.stands.kept a.1 in
       let flows : old.proof.flow ≡ new.proof.flow = ap (λ (p : Passes). p.proof.flow) a.2 in
-      let all : old.proof.defs ≡ new.proof.defs = ap (λ (p : Passes). p.proof.defs) a.2 in
-      (
+      let all : old.proof.defs ≡ new.proof.defs = ap (λ (p : Passes). p.proof.defs) a.2 in (
         chain a.0,
         move (λ (f : Flow) (ds : List Def). then_give chain (chains.reading_line k f ds l r) ≡ Ok (chain a.0))
             old.proof.flow flow old.proof.defs defs s.flow_is s.defs_are (ap (then_give chain) a.1),

@@ -1,6 +1,6 @@
 -- Where a judge of documents stands by one line more.
 use Rattle.std.proofs.Common.{◌≡◌, ◌≢◌, ℕ, suc, List, [], ◌∷◌, ◌++◌, length, refl, sym, ◌∙◌, ap, subst}
-use Rattle.std.specs.Prelude.{Ok, Err}
+use Rattle.std.specs.Prelude.{Err}
 use Rattle.std.specs.Borrow.{Bor}
 use Rattle.mc_lines.specs.declared.cert.line.Line.{Line}
 use Rattle.mc_lines.specs.declared.cert.line.Line.TheVariants.{Header}
@@ -112,7 +112,8 @@ module _ (k : Lore) (flow : Flow) (defs : List Def) where
   at_end text texts rest (Ended verdict) cut h at =
       subst (λ (ts : List (List ℕ)). IsAt k flow defs ts (Ended verdict)) (sym (lines_closed text texts rest cut (sym h))) at
   at_end text texts rest (Refused cause) cut h at =
-      subst (λ (ts : List (List ℕ)). IsRefusal k flow defs ts cause) (sym (lines_first text texts rest cut)) (refusal_more k flow defs texts (lines_of rest) cause at)
+      subst (λ (ts : List (List ℕ)). IsRefusal k flow defs ts cause) (sym (lines_first text texts rest cut))
+      (refusal_more k flow defs texts (lines_of rest) cause at)
   at_end text texts rest Spent cut h at = absurd h
 
   last_line : (text : List ℕ) (texts : List (List ℕ)) (rest held : List ℕ) (last : Stage) → IsCut text texts rest → held ≡ rest → held ≢ []

@@ -241,8 +241,7 @@ module _ (laws : Laws) (k : Lore) (flow : Flow) (defs : List Def) (valid : IsVal
   module _ (know other : State → Test) (knows : KnowsStates flow defs know) (too : KnowsStates flow defs other) (lines : List Line) where
     alarms_too : (count : ℕ) → HasAlarms know flow defs lines count → HasAlarms other flow defs lines count
     alarms_too count (c, final, counted, some) =
-        let d = laws.one know other flow defs lines valid knows too c in
-        (
+        let d = laws.one know other flow defs lines valid knows too c in (
           d.0,
           ap (λ (r : chains.Reading). r.changed) d.1 ∙ final,
           ap (λ (r : chains.Reading). length r.stuck) d.1 ∙ counted,

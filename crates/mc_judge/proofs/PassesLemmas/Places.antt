@@ -1,6 +1,6 @@
 -- Places of states among the states of cuts.
-use Rattle.std.proofs.Common.{◌≡◌, ◌+◌, ◌-◌, ◌<◌, ◌≤◌, ℕ, zero, suc, List, [], ◌∷◌, ◌++◌, Bool, true, false, None, length, map, take, drop, insert, get_or, slice_get, nat_lt, nat_eq, refl, sym, ◌∙◌, ap, subst, append_assoc, add-one, arith}
-use Rattle.std.specs.Prelude.{◌==◌, slice_set, if◌then◌else◌}
+use Rattle.std.proofs.Common.{◌≡◌, ◌-◌, ◌<◌, ◌≤◌, ℕ, zero, suc, List, [], ◌∷◌, ◌++◌, true, false, None, length, map, take, drop, get_or, slice_get, nat_lt, nat_eq, refl, sym, ◌∙◌, ap, subst, append_assoc, arith}
+use Rattle.std.specs.Prelude.{◌==◌, slice_set}
 use Rattle.std.proofs.Math.Seq.{drop-cons}
 use Rattle.std.proofs.lemmas.Bool.Decides.{nat_tests}
 use Rattle.std.proofs.lemmas.List.{drop-map, length-map, map-append}
@@ -13,7 +13,7 @@ use Rattle.mc_kernel.proofs.ReadingLemmas.Lists.{append_none}
 use Rattle.mc_state.specs.State.{State}
 use Rattle.mc_joins.specs.Chains.Opened.{with_state_at, with_state_for}
 use Rattle.mc_replay.specs.Changes.{states_held}
-use Rattle.mc_judge.specs.Passes.Places.{IsPlaceAt, IsPlaceFor}
+use Rattle.mc_judge.specs.Passes.Places.{IsPlaceAt}
 
 -- ---- tests
 
@@ -76,11 +76,12 @@ pub after_one : (heads : List HeadCode) (p : PointId) (i : ℕ) (x : HeadCode) �
 after_one heads p i x within is e c =
     let hs = map head_of heads in
     let cut = cut_here heads i x within is in
-    record { puts = λ s.
-      c.puts s
-      ∙ ap (λ (ys : List Head). take i hs ++ with_state_at p s ys) cut
-      ∙ ap (λ (ys : List Head). take i hs ++ ys) (later p s (head_of x) (drop (suc i) hs) (not_less p.0 x.point.0 e))
-      ∙ step hs i (head_of x) (drop (suc i) hs) (with_state_at p s (drop (suc i) hs)) cut
+    record {
+      puts = λ s.
+          c.puts s
+          ∙ ap (λ (ys : List Head). take i hs ++ with_state_at p s ys) cut
+          ∙ ap (λ (ys : List Head). take i hs ++ ys) (later p s (head_of x) (drop (suc i) hs) (not_less p.0 x.point.0 e))
+          ∙ step hs i (head_of x) (drop (suc i) hs) (with_state_at p s (drop (suc i) hs)) cut;
     }
 
 -- it comes here
@@ -187,8 +188,7 @@ pub left_here : (heads : List HeadCode) (p : PointId) (number i : ℕ) (x : Head
 left_here heads p number i x within is e l =
     let hs = map head_of heads in
     let cut = cut_here heads i x within is in
-    let long : length hs ≡ length heads = length-map heads head_of in
-    (
+    let long : length hs ≡ length heads = length-map heads head_of in (
       omega arith,
       λ s.
           l.puts s
@@ -212,7 +212,8 @@ pub far_on : (heads : List HeadCode) (p : PointId) (states : List (Bor State)) (
     → (x.point.0 ≡ p.0 → ⊥) → AreSoFar heads p states i → AreSoFar heads p states (suc i)
 far_on heads p states i x within is e far =
     let cut = cut_here heads i x within is in
-    ap (λ (ss : List State). states_held states ++ ss) (sym (ap (states_at p) cut ∙ not_at p (head_of x) (drop (suc i) (map head_of heads)) (differs x.point.0 p.0 e))) ∙ far
+    ap (λ (ss : List State). states_held states ++ ss)
+    (sym (ap (states_at p) cut ∙ not_at p (head_of x) (drop (suc i) (map head_of heads)) (differs x.point.0 p.0 e))) ∙ far
 
 pub far_more : (heads : List HeadCode) (p : PointId) (states : List (Bor State)) (i : ℕ) (x : HeadCode) (s : Bor State) → i < length heads
     → x ≡ get_or heads i x → x.point.0 ≡ p.0 → s.now ≡ x.state → AreSoFar heads p states i → AreSoFar heads p (states ++ s ∷ []) (suc i)
@@ -222,7 +223,8 @@ far_more heads p states i x s within is e held far =
     ap (λ (ss : List State). ss ++ rest) (map-append (λ (b : Bor State). b.now) states (s ∷ []))
     ∙ append_assoc (states_held states) (s.now ∷ []) rest
     ∙ ap (λ (t : State). states_held states ++ t ∷ rest) held
-    ∙ ap (λ (ss : List State). states_held states ++ ss) (sym (ap (states_at p) cut ∙ is_at p (head_of x) (drop (suc i) (map head_of heads)) (same x.point.0 p.0 e))) ∙ far
+    ∙ ap (λ (ss : List State). states_held states ++ ss)
+    (sym (ap (states_at p) cut ∙ is_at p (head_of x) (drop (suc i) (map head_of heads)) (same x.point.0 p.0 e))) ∙ far
 
 pub far_all : (heads : List HeadCode) (p : PointId) (states : List (Bor State)) (i : ℕ) → length heads ≡ i → AreSoFar heads p states i
     → states_held states ≡ states_at p (map head_of heads)

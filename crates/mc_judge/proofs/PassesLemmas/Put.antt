@@ -1,5 +1,5 @@
 -- What lines put among the states of cuts.
-use Rattle.std.proofs.Common.{◌≡◌, ℕ, ℤ, List, [], ◌∷◌, Bool, true, false, Option, Some, None, length, insert, slice_get, not, refl, sym, ◌∙◌, ap, subst}
+use Rattle.std.proofs.Common.{◌≡◌, ℕ, ℤ, List, Bool, Option, Some, None, length, insert, slice_get, not, refl, sym, ◌∙◌, ap, subst}
 use Rattle.std.specs.Prelude.{◌&&◌, ◌==◌, Result, Ok, Err, slice_set}
 use Rattle.std.specs.List.{AllByRecursion, list_all}
 use Rattle.mc_flow.specs.declared.defs.rules.Def.{Def}

@@ -1,6 +1,6 @@
 -- A chain is read where it stands.
 use Rattle.std.proofs.Common.{◌≡◌, ◌+◌, ◌∙◌, ℕ, suc, List, [], ◌∷◌, ◌++◌, Bool, true, false, not, Option, Some, None, length, refl, ap, sym, subst, length-append}
-use Rattle.std.specs.Prelude.{◌&&◌, ◌||◌, Result, Ok, Err, if◌then◌else◌}
+use Rattle.std.specs.Prelude.{◌&&◌, ◌||◌, Result, Ok, Err}
 use Rattle.mc_base.specs.declared.ids.PointId.{PointId}
 use Rattle.mc_lines.specs.declared.cert.line.Line.{Line}
 use Rattle.mc_lines.specs.declared.cert.line.Line.TheVariants as line
@@ -8,9 +8,7 @@ use Rattle.mc_flow.specs.declared.defs.rules.Def.{Def}
 use Rattle.mc_flow.specs.declared.graph.Flow.{Flow}
 use Rattle.mc_state.specs.Premises.{Judged, need, have, then_give}
 use Rattle.mc_state.proofs.Numbered.{then_ok}
-use Rattle.mc_state.specs.declared.line.Form.{Form}
 use Rattle.mc_state.specs.declared.line.JoinStep.{JoinStep}
-use Rattle.mc_state.specs.declared.line.Version.{Version}
 use Rattle.mc_state.specs.declared.raw_state.RawState.{RawState}
 use Rattle.mc_state.specs.RawStates.{state_of}
 use Rattle.mc_rules_steps.specs.Operands.{code_at}
@@ -25,7 +23,7 @@ use Rattle.mc_document.specs.declared.proof.fault.ApplyFault.TheVariants.{Premis
 use Rattle.mc_document.specs.Proof.Lines as proofs
 use Rattle.mc_document.specs.Proof.Lines.{AnswersAll, ComesTo, TellsFormed, cutting_at, ending_at, heading_at, is_ready_at, may_head_at, marks, readied, rule_at, ruling_at, setting_at}
 use Rattle.mc_document.specs.Proof.Positions.{Position}
-use Rattle.mc_document.proofs.ProofLemmas.Read.{rest_is_rule, then_err}
+use Rattle.mc_document.proofs.ProofLemmas.Read.{then_err}
 use Rattle.mc_joins.specs.Chains.Chains.{changes, over}
 use Rattle.mc_joins.specs.Chains.Judges as chains
 use Rattle.mc_joins.specs.Chains.Judges.{Lore, Outcome, Reading, Stage, cutting, heading, passing, finished, passing_line, reading_cut, reading_end, reading_head, reading_line, reading_pass, reading_rule}
@@ -217,7 +215,8 @@ module _ (flow : Flow) (defs : List Def) where
   none_more r = ap (λ (bs : List Path). length bs) (sym (append_none r.stuck))
 
   module _ (k : Lore) (l : Line) (judge : Path → Judged (List Head)) (r : Reading) (changing : changes l ≡ true) (unmarked : (b : Path) → marked l b ≡ [])
-      (judged : (b : Path) → passing_line k flow defs r.round (over r.cuts r.heads) l b ≡ then_give (λ heads. record { next = []; heads = heads }) (judge b)) where
+      (judged : (b : Path) → passing_line k flow defs r.round (over r.cuts r.heads) l b
+      ≡ then_give (λ heads. record { next = []; heads = heads }) (judge b)) where
     abbrev changed_by : Path × List Path → List Head → Passes
     changed_by b heads = changed_to (at r) (record (position_of flow defs r) { heads = heads; branches = b.1 })
 
@@ -273,14 +272,17 @@ module _ (l : Line) (old new : Passes) (lore : (k : Lore) × IsRight k old.proof
   read_here : (k : Lore) (r : Reading) → Stands k r old
       → read k old ≡ then_give (passes_of old.proof.flow old.proof.defs) (reading_line k old.proof.flow old.proof.defs l r)
   read_here k r s =
-      subst (λ (q : Passes). read k q ≡ then_give (passes_of old.proof.flow old.proof.defs) (reading_line k old.proof.flow old.proof.defs l r)) s.here (same k r)
+      subst (λ (q : Passes). read k q ≡ then_give (passes_of old.proof.flow old.proof.defs) (reading_line k old.proof.flow old.proof.defs l r))
+      s.here (same k r)
 
   applied : (result : Result Unit ApplyFault) → ByLores old (λ k. ComesTo (read k old) old new result) → Tries l old new result
   applied (Ok done) told = λ k r s.
-      let given = then_ok (passes_of old.proof.flow old.proof.defs) (reading_line k old.proof.flow old.proof.defs l r) new (sym (read_here k r s) ∙ told k s.right) in
+      let given = then_ok (passes_of old.proof.flow old.proof.defs) (reading_line k old.proof.flow old.proof.defs l r) new
+      (sym (read_here k r s) ∙ told k s.right) in
       (given.0, given.1, sym given.2)
   applied (Err (Premise n)) told = (
-    (λ k r s. then_err (passes_of old.proof.flow old.proof.defs) (reading_line k old.proof.flow old.proof.defs l r) n (sym (read_here k r s) ∙ (told k s.right).0)),
+    (λ k r s. then_err (passes_of old.proof.flow old.proof.defs) (reading_line k old.proof.flow old.proof.defs l r) n
+        (sym (read_here k r s) ∙ (told k s.right).0)),
     (told lore.0 lore.1).1,
   )
   applied (Err NoMemory) told = tt
@@ -334,7 +336,8 @@ module _ (old : Passes) (lore : (k : Lore) × IsRight k old.proof.flow old.proof
         → Tries (line.C3 j steps) old new result
     by_joining j steps told =
         applied (line.C3 j steps) old new lore (λ k o. joining_at k j steps o)
-        (λ k r. change_same flow defs k (line.C3 j steps) (chains.joining_state k defs r.round (over r.cuts r.heads) j steps) r refl (λ b. refl) (λ b. refl)) result told
+        (λ k r. change_same flow defs k (line.C3 j steps) (chains.joining_state k defs r.round (over r.cuts r.heads) j steps) r refl (λ b. refl)
+        (λ b. refl)) result told
 
 -- a line that is neither C2 nor C3 changes no state of a cut
 pub rest_stays : (l : Line) → ((tries : List (List JoinStep)) → l ≡ line.C2 tries → ⊥) → ((j : ℕ) (steps : List JoinStep) → l ≡ line.C3 j steps → ⊥)

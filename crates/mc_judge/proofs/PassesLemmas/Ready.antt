@@ -1,20 +1,18 @@
 -- Branches at which the states of cuts may be changed.
-use Rattle.std.proofs.Common.{◌≡◌, ℕ, List, [], ◌∷◌, Bool, true, false, Option, Some, None, map, option_map, not, refl, sym, ◌∙◌, ap, subst}
+use Rattle.std.proofs.Common.{◌≡◌, List, [], ◌∷◌, Bool, true, false, Option, Some, None, option_map, not, refl, sym, ◌∙◌, ap, subst}
 use Rattle.std.specs.Prelude.{◌==◌, Ok, Err, option_and_then, if◌then◌else◌}
 use Rattle.std.specs.List.{AllByRecursion}
 use Rattle.mc_base.specs.declared.ids.PointId.{PointId}
-use Rattle.mc_flow.specs.declared.defs.rules.Def.{Def}
-use Rattle.mc_flow.specs.declared.graph.Flow.{Flow}
 use Rattle.mc_state.specs.Known.{Test, Tells, is_false}
 use Rattle.mc_state.specs.Premises.{Judged, need, have, then_give}
-use Rattle.mc_state.proofs.Numbered.{have_yes, need_yes}
+use Rattle.mc_state.proofs.Numbered.{need_yes}
 use Rattle.mc_state.specs.State.{State}
 use Rattle.mc_kernel.specs.Branches.{Head, Path, states_at}
 use Rattle.mc_kernel.specs.Readings.{first_branch, is_ruling}
 use Rattle.mc_document.specs.Proof.Lines.{ending_with}
 use Rattle.mc_document.specs.Proof.Stacks.{AreMade, HeadsAreMade}
-use Rattle.mc_joins.specs.Chains.Judges.{Lore, may_change}
-use Rattle.mc_joins.specs.Chains.Laws.{IsRight, Made}
+use Rattle.mc_joins.specs.Chains.Judges.{may_change}
+use Rattle.mc_joins.specs.Chains.Laws.{Made}
 use Rattle.mc_judge.specs.declared.passes.passes.Passes.{Passes}
 use Rattle.mc_judge.specs.Passes.Lines.{ByLores, IsReady, IsUnready, changed_to, changer, changing_at, setting_here}
 
@@ -68,7 +66,8 @@ module _ (p : Passes) where
     pub is : o ≡ Some (b, others)
     pub may : may_change (setting_here p) b ≡ true
 
-  may_of : (b x : Path) (may : Bool) → may_change (setting_here p) x ≡ may → (if may then Some x else None) ≡ Some b → (x ≡ b) × (may_change (setting_here p) x ≡ true)
+  may_of : (b x : Path) (may : Bool) → may_change (setting_here p) x ≡ may → (if may then Some x else None) ≡ Some b
+      → (x ≡ b) × (may_change (setting_here p) x ≡ true)
   may_of b x true e is = (cc is, e)
   may_of b x false e is = absurd (cc is)
 

@@ -1,6 +1,4 @@
-use Rattle.std.proofs.Common.{◌≡◌, inl, inr, ℕ, List, [], ◌∷◌, sym, subst}
-use Rattle.mc_flow.specs.declared.defs.rules.Def.{Def}
-use Rattle.mc_flow.specs.declared.graph.Flow.{Flow}
+use Rattle.std.proofs.Common.{inl, inr, [], ◌∷◌, sym, subst}
 use Rattle.mc_judge.specs.Documents.{IsEnded}
 use Rattle.mc_judge.specs.Judge.Laws.{OpenDocumentsEndEarly}
 use Rattle.mc_judge.proofs.JudgeLemmas.Documents.{AreRead, Once, not_refused, nothing_refused, same_document}

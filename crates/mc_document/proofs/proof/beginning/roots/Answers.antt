@@ -1,5 +1,4 @@
 use Rattle.std.proofs.Common.{◌≡◌, ◌∙◌, List, map, subst, sym}
-use Rattle.mc_flow.specs.declared.defs.rules.Def.{Def}
 use Rattle.mc_kernel.specs.Branches.{Path, roots as all_roots}
 use Rattle.mc_check_line.specs.Judging.{head_of}
 use Rattle.mc_document.specs.Proof.Stacks.{AreMade}

@@ -1,4 +1,4 @@
-use Rattle.std.proofs.Common.{◌≡◌, sym, subst}
+use Rattle.std.proofs.Common.{subst}
 use Rattle.std.specs.Prelude.{Err}
 use Rattle.mc_check_line.specs.declared.branch.Refused.{Refused}
 use Rattle.mc_check_line.specs.Judging.{IsLineAnswer, path, paths, setting_of}

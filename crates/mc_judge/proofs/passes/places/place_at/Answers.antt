@@ -1,4 +1,4 @@
-use Rattle.std.proofs.Common.{◌∙◌, ◌<◌, ◌+◌, ℕ, length, ap, sym, subst, add-one, arith}
+use Rattle.std.proofs.Common.{◌+◌, ℕ, ap, sym, subst, add-one, arith}
 use Rattle.mc_judge.specs.Passes.Places.{IsPlaceAt}
 use Rattle.mc_judge.proofs.PassesLemmas.Places.{ComesAfter, after_one, comes_here, comes_last}
 use Rattle.mc_check_line.specs.Judging.{head_of}

@@ -1,4 +1,4 @@
-use Rattle.std.proofs.Common.{◌≡◌, ◌<◌, ◌≤◌, ◌+◌, ℕ, suc, length, sym, subst, add-one, arith}
+use Rattle.std.proofs.Common.{ℕ, suc, sym, subst, add-one, arith}
 use Rattle.mc_judge.proofs.PassesLemmas.Places.{IsLeft, left_down, left_here, left_none, left_on}
 use Rattle.mc_judge.proofs.passes.places.place_for.Goals.{then-head-point+else-left-eq0, else-head-point}
 use Rattle.mc_judge.proofs.passes.places.place_for.Goals as goal

@@ -1,4 +1,4 @@
-use Rattle.std.proofs.Common.{◌≡◌, ◌∙◌, ◌<◌, ◌≤◌, ◌+◌, ℕ, List, suc, length, ap, refl, sym, subst, add-one, arith}
+use Rattle.std.proofs.Common.{◌∙◌, ℕ, List, suc, ap, refl, sym, subst, add-one, arith}
 use Rattle.std.specs.Borrow.{Bor}
 use Rattle.mc_state.specs.State.{State}
 use Rattle.mc_judge.proofs.PassesLemmas.Places.{AreSoFar, far_all, far_more, far_on}

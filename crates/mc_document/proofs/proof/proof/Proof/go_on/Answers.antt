@@ -1,4 +1,4 @@
-use Rattle.std.proofs.Common.{◌≡◌, refl, subst}
+use Rattle.std.proofs.Common.{refl, subst}
 use Rattle.std.specs.Prelude.{Err}
 use Rattle.mc_kernel.specs.Judges.{Knowledge}
 use Rattle.mc_document.specs.Proof.Held.{seen}

@@ -19,7 +19,9 @@ returns c =
     subst (λ (q : Position). ending_with (λ b. insert q.heads c.args.place (b.point, c.args.state)) q
     ≡ Ok (seen (record c.self.inside { heads = c.insert.new.self; branches = c.end_first.new.self }))) c.self.view_is
     (ends_first (seen c.self.inside) heads (path c.in-Some.branch.now) (map head_of c.insert.new.self.items) c.end_first.new.self
-    c.in-Some.ensures (sym (map_inserted head_of c.self.inside.heads.items c.args.place h) ∙ ap (λ (hs : List HeadCode). map head_of hs) (sym c.in_ok-insert.ensures.items)) c.end_first.ensures)
+    c.in-Some.ensures
+    (sym (map_inserted head_of c.self.inside.heads.items c.args.place h) ∙ ap (λ (hs : List HeadCode). map head_of hs) (sym c.in_ok-insert.ensures.items))
+    c.end_first.ensures)
 
 pub invariant_of-self-2 : goal.invariant_of-self-2
 invariant_of-self-2 c =

@@ -1,4 +1,4 @@
-use Rattle.std.proofs.Common.{◌≡◌, ◌∙◌, ap, sym, true, false}
+use Rattle.std.proofs.Common.{◌≡◌, ◌∙◌, ap, sym, true}
 use Rattle.mc_kernel.specs.Readings.{is_ruling}
 use Rattle.mc_document.specs.Proof.Lines.{is_ready_at}
 use Rattle.mc_document.specs.Proof.Positions.{Position}

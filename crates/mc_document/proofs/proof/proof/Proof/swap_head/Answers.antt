@@ -1,4 +1,4 @@
-use Rattle.std.proofs.Common.{◌≡◌, ◌∙◌, List, ap, map, subst, sym}
+use Rattle.std.proofs.Common.{◌≡◌, List, map, subst, sym}
 use Rattle.std.specs.Prelude.{Ok, slice_set}
 use Rattle.std.specs.Vec.{with_item}
 use Rattle.mc_check_line.specs.declared.branch.Head.{Head as HeadCode}

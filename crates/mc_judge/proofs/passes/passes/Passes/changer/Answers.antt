@@ -1,7 +1,7 @@
 use Rattle.std.proofs.Common.{◌≡◌, ◌∙◌, List, ap, sym, true, false}
 use Rattle.mc_base.specs.declared.ids.PointId.{PointId}
 use Rattle.mc_check_line.specs.Judging.{path}
-use Rattle.mc_kernel.specs.Readings.{Stage, is_ruling}
+use Rattle.mc_kernel.specs.Readings.{is_ruling}
 use Rattle.mc_joins.specs.Chains.Chains.{over}
 use Rattle.mc_joins.specs.Chains.Judges.{may_change}
 use Rattle.mc_judge.specs.Passes.Lines.{setting_here}

@@ -1,9 +1,8 @@
-use Rattle.std.proofs.Common.{◌≡◌, ◌∙◌, ℕ, List, ap, refl, sym, subst}
+use Rattle.std.proofs.Common.{◌≡◌, ◌∙◌, ℕ, List, ap, sym, subst}
 use Rattle.mc_check_line.specs.Judging.{path}
 use Rattle.mc_kernel.specs.Branches.{Head, states_at}
-use Rattle.mc_document.specs.declared.proof.fault.ApplyFault.TheVariants.{Premise}
 use Rattle.mc_judge.specs.Passes.Lines.{IsUnready}
-use Rattle.mc_judge.proofs.PassesLemmas.Ready.{changer_from, is_ready, unready_one, unready_two}
+use Rattle.mc_judge.proofs.PassesLemmas.Ready.{changer_from, is_ready, unready_two}
 use Rattle.mc_judge.proofs.passes.passes.Passes.ready.Goals as goal
 
 pub returns-then-is_false-clause-refused : goal.returns-then-is_false-clause-refused

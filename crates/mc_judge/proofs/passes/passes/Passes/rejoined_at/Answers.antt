@@ -1,4 +1,4 @@
-use Rattle.std.proofs.Common.{◌≡◌, ◌∙◌, List, ◌∷◌, ℤ, ap, subst}
+use Rattle.std.proofs.Common.{◌∙◌, List, ◌∷◌, ap, subst}
 use Rattle.std.specs.Prelude.{Some}
 use Rattle.mc_flow.specs.declared.graph.Flow.{Flow}
 use Rattle.mc_check_line.specs.Judging.{path}
@@ -36,6 +36,6 @@ pub returns-in-Err-clause-put : goal.returns-in-Err-clause-put
 returns-in-Err-clause-put c =
     let p = c.args.self.now in
     rejoined_unmet p (path c.args.branch.now) (states_held c.args.lefts.now) c.requires c.changes_are_parted.ensures.joining c.args.number
-    c.args.steps.now c.as_slice-2.result.now c.in-Err.premise (c.as_slice-2.ensures ∙ ap (λ (f : Flow). f.thresholds) c.flow.ensures)
+    c.args.steps.now c.as_slice-2.result.now c.in-Err.unmet (c.as_slice-2.ensures ∙ ap (λ (f : Flow). f.thresholds) c.flow.ensures)
     (rejoined_as p.round c.args.number c.as_slice-2.result.now (states_held c.args.lefts.now) c.args.branch.now.state _ _ _ _ _ _
     c.defs.ensures c.as_slice.ensures c.in-Err.is c.in_ok-state.ensures)

@@ -24,14 +24,14 @@ returns-in-Pass c =
     let old = c.args.self.now in
     let lore = c.lores_are_there.ensures old.proof.flow old.proof.defs c.is_held.ensures.valid in
     subst (λ (l : Line). Tries l old c.pass.new.self c.pass.result) (sym c.in-Pass.is)
-    (by_pass old lore c.pass.result c.pass.new.self  c.pass.ensures)
+    (by_pass old lore c.pass.result c.pass.new.self c.pass.ensures)
 
 pub returns-in-End : goal.returns-in-End
 returns-in-End c =
     let old = c.args.self.now in
     let lore = c.lores_are_there.ensures old.proof.flow old.proof.defs c.is_held.ensures.valid in
     subst (λ (l : Line). Tries l old (record c.args.self.now { proof = c.end.new.self }) c.end.result) (sym c.in-End.is)
-    (by_end old lore c.end.result c.end.new.self  c.end.ensures)
+    (by_end old lore c.end.result c.end.new.self c.end.ensures)
 
 pub returns-in-C2 : goal.returns-in-C2
 returns-in-C2 c =

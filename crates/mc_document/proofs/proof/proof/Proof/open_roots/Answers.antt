@@ -2,7 +2,7 @@ use Rattle.std.proofs.Common.{List, map, subst, sym}
 use Rattle.mc_check_line.specs.declared.branch.Head.{Head}
 use Rattle.mc_check_line.specs.Judging.{head_of}
 use Rattle.mc_document.specs.Proof.Stacks.{HeadsAreMade}
-use Rattle.mc_document.proofs.proof.proof.Proof.pass.Goals as goal
+use Rattle.mc_document.proofs.proof.proof.Proof.open_roots.Goals as goal
 
 pub invariant_of-self : goal.invariant_of-self
 invariant_of-self c =
