@@ -7,7 +7,6 @@ pub mod ReadLines
 pub mod ReadPasses
 pub mod ReadFront
 pub mod ReadWhole
-pub mod LinesAgree
 pub mod JoinsAgree
 pub mod ReadAgree
 pub mod ShortReadings

@@ -5,5 +5,6 @@ pub mod Front
 pub mod Whole
 pub mod Refused
 pub mod Kept
+pub mod LinesAgree
 pub mod Agree
 pub mod Closed

@@ -1,47 +1,14 @@
 // The nodes that are reached from null and the variables.
-ghost use Rattle.std.specs.Prelude.{◌≡◌, ◌↔◌, ◌<◌, ◌++◌, ◌∷◌, [], IfOk, OnOk, IsTrue, Some, false, slice_get, length, replicate};
+ghost use Rattle.std.specs.Prelude.{◌≡◌, ◌↔◌, ◌<◌, ◌∷◌, IfOk, OnOk, IsTrue, Some, false, slice_get, length, replicate};
 ghost use Rattle.mc_base.specs.Nodes.{null};
-ghost use Rattle.mc_state.specs.Graph.Edges.{known_nodes, nodes_of};
+ghost use Rattle.mc_state.specs.Graph.Edges.{known_nodes};
 ghost use Rattle.mc_state.specs.Facts.{IsReached, IsFalse};
 ghost use Rattle.mc_symbolic.specs.Reached.{IsOpened, Opens, Searches};
 
 use crate::State;
+use crate::nodes::{push_known, push_nodes};
 use mc_base::{NULL, NoMemory, NodeId};
-use mc_state::graph::Edge;
 use std::alloc::Global;
-
-/// Adds the nodes of fields that are known.
-fn push_known(found: &mut Vec<NodeId>, fields: &[Option<NodeId>]) -> Result<(), NoMemory>
-    ensures { OnOk result (found.new.items ≡ found.old.items ++ known_nodes fields.now) }
-{
-    for field in fields {
-        if let Some(node) = *field {
-            found.push(node)?;
-        }
-    }
-    Ok(())
-}
-
-/// Adds the nodes of an edge.
-fn push_nodes(found: &mut Vec<NodeId>, edge: &Edge) -> Result<(), NoMemory>
-    ensures { OnOk result (found.new.items ≡ found.old.items ++ nodes_of edge.now) }
-{
-    found.push(edge.start())?;
-    match edge {
-        Edge::Block { fields, .. } => push_known(found, fields.as_slice()),
-        Edge::Ind { args, .. } => found.extend_from_slice(args.as_slice()),
-        Edge::Seg {
-            args,
-            end,
-            end_args,
-            ..
-        } => {
-            found.extend_from_slice(args.as_slice())?;
-            found.push(*end)?;
-            found.extend_from_slice(end_args.as_slice())
-        }
-    }
-}
 
 /// Uses the edge at a place, where it is not used and starts at a node that equals this one.
 fn open_at(

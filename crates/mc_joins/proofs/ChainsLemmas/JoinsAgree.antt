@@ -16,6 +16,7 @@ use Rattle.mc_kernel.specs.Branches.{Head, Path, roots, states_at}
 use Rattle.mc_kernel.specs.Certificates.{states_of}
 use Rattle.mc_kernel.specs.Reading.Documents.{IsMade}
 use Rattle.mc_kernel.proofs.ReadingLemmas.Lists.{all_join}
+use Rattle.mc_kernel.proofs.ReadingLemmas.LinesAgree.{one_test}
 use Rattle.mc_joins.specs.Joinings.{Joining, begun, next_pair}
 use Rattle.mc_joins.specs.Laws.{PrefixesAreDetermined, StepsAreDetermined, StepsKeepMade, StuckIsEvery}
 use Rattle.mc_joins.specs.Parts.{Basis}
@@ -27,7 +28,6 @@ use Rattle.mc_joins.specs.Chains.Laws.{Made}
 use Rattle.mc_joins.specs.Chains.ReadLaws.{LegalChainsAreOne}
 use Rattle.mc_joins.proofs.ChainsLemmas.Final.{all_at, good_heads, line_keeps, pass_keeps, roots_made, states_made}
 use Rattle.mc_joins.proofs.ChainsLemmas.Judging.{one_of}
-use Rattle.mc_joins.proofs.ChainsLemmas.LinesAgree.{one_test}
 use Rattle.mc_joins.proofs.ChainsLemmas.NewStates.{MakingLaws, NewStatesAreMade, new_states}
 
 -- what is used of steps of joins

@@ -19,6 +19,7 @@ use Rattle.mc_kernel.specs.Judges.{is_cut}
 use Rattle.mc_kernel.specs.Reading.Documents.{IsMade}
 use Rattle.mc_kernel.specs.Readings.{first_branch, marked}
 use Rattle.mc_kernel.proofs.ReadingLemmas.Kept.{first_is}
+use Rattle.mc_kernel.proofs.ReadingLemmas.LinesAgree.{lines_agree, one_knows, one_test}
 use Rattle.mc_joins.specs.Joinings.{Joining, begun, next_pair}
 use Rattle.mc_joins.specs.Laws.{JoinsAreDetermined}
 use Rattle.mc_joins.specs.Parts.{Basis}
@@ -34,7 +35,6 @@ use Rattle.mc_joins.specs.Chains.ReadLaws.{ChainJudgesAgree}
 use Rattle.mc_joins.proofs.ChainsLemmas.InOrder.{in_order_same}
 use Rattle.mc_joins.proofs.ChainsLemmas.JoinsAgree.{StepLaws, and_same, prefix_same, tries_same, whole_same}
 use Rattle.mc_joins.proofs.ChainsLemmas.Judging.{one_of, whole_from}
-use Rattle.mc_joins.proofs.ChainsLemmas.LinesAgree.{lines_agree, one_knows, one_test}
 use Rattle.mc_joins.proofs.ChainsLemmas.NewStates.{NewStatesAreMade, new_states}
 use Rattle.mc_joins.proofs.ChainsLemmas.Places.{and_both}
 use Rattle.mc_joins.proofs.ChainsLemmas.ReadLines.{Laws, begun_chain_is_kept, line_kept, states_good}

@@ -1,6 +1,5 @@
 // Whether two states are the same under some renaming.
 ghost use Rattle.std.specs.Prelude.{◌≡◌, ◌↔◌, ◌++◌, IfOk, IsTrue, OnOk};
-ghost use Rattle.mc_state.specs.Graph.Edges.{known_nodes, nodes_of};
 ghost use Rattle.mc_joins.specs.Alike.Named.{edge_nodes, named_nodes, AllNamed, AreLinks, AreSameBySome};
 
 use crate::alike::equal_under;
@@ -8,47 +7,15 @@ use mc_base::{EdgeId, NoMemory, NodeId};
 use mc_pure_ops::renaming::Renaming;
 use mc_state::graph::Edge;
 use mc_symbolic::State;
+use mc_symbolic::nodes::{push_known, push_nodes};
 use std::alloc::Global;
-
-/// Adds the nodes that are known.
-fn add_known(list: &mut Vec<NodeId>, nodes: &[Option<NodeId>]) -> Result<(), NoMemory>
-    ensures { OnOk result (list.new.items ≡ list.old.items ++ known_nodes nodes.now) }
-{
-    for node in nodes {
-        if let Some(node) = *node {
-            list.push(node)?;
-        }
-    }
-    Ok(())
-}
-
-/// Adds the nodes of an edge.
-fn add_nodes(list: &mut Vec<NodeId>, edge: &Edge) -> Result<(), NoMemory>
-    ensures { OnOk result (list.new.items ≡ list.old.items ++ nodes_of edge.now) }
-{
-    list.push(edge.start())?;
-    match edge {
-        Edge::Block { fields, .. } => add_known(list, fields.as_slice()),
-        Edge::Ind { args, .. } => list.extend_from_slice(args.as_slice()),
-        Edge::Seg {
-            args,
-            end,
-            end_args,
-            ..
-        } => {
-            list.extend_from_slice(args.as_slice())?;
-            list.push(*end)?;
-            list.extend_from_slice(end_args.as_slice())
-        }
-    }
-}
 
 /// Adds the nodes of edges.
 fn add_edges(list: &mut Vec<NodeId>, edges: &[(EdgeId, Edge)]) -> Result<(), NoMemory>
     ensures { OnOk result (list.new.items ≡ list.old.items ++ edge_nodes edges.now) }
 {
     for entry in edges {
-        add_nodes(list, &entry.1)?;
+        push_nodes(list, &entry.1)?;
     }
     Ok(())
 }
@@ -58,7 +25,7 @@ fn named_nodes(alloc: Global, state: &State) -> Result<Vec<NodeId>, NoMemory>
     ensures { IfOk result (λ list. list.items ≡ named_nodes state.now) }
 {
     let mut list = Vec::new(alloc);
-    add_known(&mut list, state.env())?;
+    push_known(&mut list, state.env())?;
     add_edges(&mut list, state.edges())?;
     Ok(list)
 }

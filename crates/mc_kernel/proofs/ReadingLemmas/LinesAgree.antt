@@ -1,4 +1,4 @@
--- Lines that change no state of a cut are judged alike by whatever judges rightly.
+-- Each line is judged alike by whatever judges rightly.
 use Rattle.std.proofs.Common.{◌≡◌, ℕ, List, [], ◌∷◌, Bool, true, false, not, Option, Some, None, map, refl, ap, sym, subst, ◌∙◌}
 use mathlib.Core.Path.{fun_ext}
 use Rattle.std.specs.Prelude.{Ok, Err}
