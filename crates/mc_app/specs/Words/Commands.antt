@@ -57,7 +57,7 @@ search_app =
 -- `analyse PROGRAM DEFINITIONS [--entry F] [--rounds N] [--disjuncts N] [--merge] [--runs N] [--document FILE]`
 unfoldable pub analyse_app : App
 analyse_app =
-    with_rule (with_rule search_app (number_option (codes "runs") (codes "20000") 0 1000000)) (free_option (codes "document"))
+    with_rule (with_rule search_app (number_option (codes "runs") (codes "2000") 0 1000000)) (free_option (codes "document"))
 
 -- `demo NUMBER`
 unfoldable pub demo_app : App

@@ -117,7 +117,7 @@ pub fn analyse<'w>(alloc: Global) -> Result<Command<'w>, AllocError>
     ensures { IfOk result (λ c. app_of c ≡ analyse_app) }
 {
     let command = search(alloc)?
-        .arg(number(alloc, "runs", "20000", 0, 1_000_000))?
+        .arg(number(alloc, "runs", "2000", 0, 1_000_000))?
         .arg(free_option(alloc, "document"))?;
     Ok(command)
 }
