@@ -14,6 +14,13 @@ use std::alloc::Global;
 /// The most tries of one state and one head.
 const TRIES: usize = 200;
 
+/// A way to fit a head, if one was found, and after how many tries.
+#[derive(Drop)]
+pub struct Fitted {
+    pub fit: Option<Fit>,
+    pub tries: u64,
+}
+
 /// The first edge of a head that does not come out yet, and whose start is known.
 fn next_edge<'a>(fit: &Fit, head: &'a RawState) -> Option<(usize, &'a Edge)> {
     for (place, edge) in head.edges.as_slice().iter().enumerate() {
@@ -87,6 +94,40 @@ fn ways(ground: Ground<'_>, fit: &Fit, place: usize, edge: &Edge) -> Result<Vec<
     Ok(list)
 }
 
+/// The first way to fit a head that goes on from a beginning.
+fn first_fit(
+    ground: Ground<'_>,
+    reached: &[bool],
+    head: &RawState,
+    first: Fit,
+) -> Result<Fitted, NoMemory> {
+    let mut open = Vec::new(ground.alloc);
+    open.push(first)?;
+    let mut tries: u64 = 0;
+    for _ in 0..TRIES {
+        let Some(fit) = open.pop() else {
+            return Ok(Fitted { fit: None, tries });
+        };
+        tries = tries.saturating_add(1);
+        match next_edge(&fit, head) {
+            Some((place, edge)) => {
+                let mut list = ways(ground, &fit, place, edge)?;
+                list.reverse();
+                open.append(&mut list)?;
+            }
+            None => {
+                if is_done(&fit) && uses_all(&fit, ground.state, reached) {
+                    return Ok(Fitted {
+                        fit: Some(fit),
+                        tries,
+                    });
+                }
+            }
+        }
+    }
+    Ok(Fitted { fit: None, tries })
+}
+
 /// The first way to fit a head that is found: the state must not be false, and all edges that are reached are used.
 pub fn find_fit(
     alloc: Global,
@@ -96,9 +137,12 @@ pub fn find_fit(
     reached: &[bool],
     head: &RawState,
     nulls: bool,
-) -> Result<Option<Fit>, NoMemory> {
+) -> Result<Fitted, NoMemory> {
     let Some(first) = begin(alloc, manner, state, head, nulls)? else {
-        return Ok(None);
+        return Ok(Fitted {
+            fit: None,
+            tries: 0,
+        });
     };
     let ground = Ground {
         alloc,
@@ -106,24 +150,5 @@ pub fn find_fit(
         state,
         point,
     };
-    let mut open = Vec::new(alloc);
-    open.push(first)?;
-    for _ in 0..TRIES {
-        let Some(fit) = open.pop() else {
-            return Ok(None);
-        };
-        match next_edge(&fit, head) {
-            Some((place, edge)) => {
-                let mut list = ways(ground, &fit, place, edge)?;
-                list.reverse();
-                open.append(&mut list)?;
-            }
-            None => {
-                if is_done(&fit) && uses_all(&fit, state, reached) {
-                    return Ok(Some(fit));
-                }
-            }
-        }
-    }
-    Ok(None)
+    first_fit(ground, reached, head, first)
 }

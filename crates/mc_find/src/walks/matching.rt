@@ -5,9 +5,32 @@ use crate::walks::arriving::Landing;
 use crate::walks::walking::Way;
 use mc_base::{NoMemory, PointId};
 use mc_find_view::sight::Seen;
+use mc_state::RawState;
+use mc_state::graph::Edge;
 
 /// So many steps it counts to try whether a state fits a head.
 const FIT: u64 = 4;
+
+/// So many more each try counts for each argument of the head's edges, as most of its time goes into finding these.
+const ARGUMENT: u64 = 12;
+
+/// How many arguments an edge has.
+fn arguments_of(edge: &Edge) -> u64 {
+    match edge {
+        Edge::Block { .. } => 0,
+        Edge::Ind { args, .. } => args.len() as u64,
+        Edge::Seg { args, .. } => args.len() as u64,
+    }
+}
+
+/// How many arguments the edges of a head have.
+fn all_arguments(head: &RawState) -> u64 {
+    let mut count: u64 = 0;
+    for edge in head.edges.as_slice() {
+        count = count.saturating_add(arguments_of(edge));
+    }
+    count
+}
 
 impl<'a> Attempt<'a> {
     /// Lets a state fit a head, by folds that are added to the trail. None where it does not.
@@ -35,11 +58,16 @@ impl<'a> Attempt<'a> {
             &head.raw,
             self.style.nulls,
         )?;
-        let Some(own) = found else {
+        let each = ARGUMENT.saturating_mul(all_arguments(&head.raw));
+        self.spend(found.tries.saturating_mul(each));
+        let Some(own) = found.fit else {
             return Ok(None);
         };
         note(trail)?;
         let defs = self.task.sight.defs;
+        let Some(head) = self.heads.as_slice().get(place) else {
+            return Ok(None);
+        };
         let kinds = head.raw.kinds.as_slice();
         let Some(edges) = own.make_edges(self.alloc, defs, trail)? else {
             return Ok(None);
