@@ -34,7 +34,7 @@ use Rattle.mc_joins.proofs.AtomsLemmas.Naming.{kept, no_new_range, first_kind}
 use Rattle.mc_joins.proofs.NamedKinds.{find_some, listed_kind}
 use Rattle.mc_joins.specs.Parts.{Basis, Named, own_node, nodes_of_kind, node_of_term, nodes_of_terms, nodes_of_args, behind}
 use Rattle.mc_replay.proofs.NamedLemmas.{named_own, named_spare, named_none, keeps_good, keeps_tests, one_state}
-use Rattle.mc_replay.specs.Named.{IsGood, TellsFrom, NamableInRange, BothNamableInRange, of_kinds, on_params, with_named, nodes_of_both}
+use Rattle.mc_replay.specs.Named.{IsGood, TellsFrom, NamableInRange, BothNamableInRange, of_kinds, on_params, with_named}
 
 -- the laws on which it rests
 pub record NamingLaws : Type 0 where
@@ -163,9 +163,9 @@ module _ (laws : NamingLaws) (w : Basis) (s : State) where
         by_range none true lies o is =
             let i = named lies in
             can lies _
-                (sym (named_spare w a kind t (with_atoms (with_nodes a (kind ∷ [])) (Eq (next_node a) t.node t.add ∷ [])) (next_node a) none
-                ((laws.judged (w.know a) t.node t.add kind a (grown.told.knows a grown.told.made) _).1 i) refl))
-                (named_grown a grown kind t (kind, has) _ i)
+            (sym (named_spare w a kind t (with_atoms (with_nodes a (kind ∷ [])) (Eq (next_node a) t.node t.add ∷ [])) (next_node a) none
+            ((laws.judged (w.know a) t.node t.add kind a (grown.told.knows a grown.told.made) _).1 i) refl))
+            (named_grown a grown kind t (kind, has) _ i)
         by_range none false out (Ok next) is =
             let yes_is = known (follows a grown.good (range_of kind t.node t.add) (names next is).lies) in
             absurd (cc (sym out ∙ yes_is))

@@ -1,5 +1,5 @@
 // Nodes of terms: their own, or such as are named for them.
-ghost use Rattle.std.specs.Prelude.{◌≡◌, ◌-ℤ◌, ◌++◌, ◌∷◌, [], ◌&&◌, Some, None, IfOk, OnOk, IsTrue, find, option_map, is_some};
+ghost use Rattle.std.specs.Prelude.{◌≡◌, ◌-ℤ◌, ◌∷◌, [], ◌&&◌, Some, None, IfOk, OnOk, find, option_map, is_some};
 ghost use Rattle.mc_base.specs.declared.ids.NodeId.{NodeId as Node};
 ghost use Rattle.mc_base.specs.declared.plain.Atom.TheVariants.{In};
 ghost use Rattle.mc_state.specs.Known.{Test, Tells};
@@ -263,7 +263,9 @@ fn args_lie_in(state: &State, defs: &Defs, pred: PredId, args: &[Term]) -> bool
     }
 }
 
-/// Whether a predicate's arguments have nodes, or such can be named. Nothing is copied where each is of a node of its kind.
+/// Whether a predicate's arguments have nodes, or such can be named. Where each is of a node of its kind, this is read from
+/// the state as it is. A term of a node of another kind may be equal to one that is named before it: then it is tried in a
+/// copy.
 pub fn can_name(
     alloc: Global,
     state: &State,

@@ -1,4 +1,4 @@
-use Rattle.mc_replay.proofs.NamableLemmas.{NamingLaws, args_namable, both_namable}
+use Rattle.mc_replay.proofs.NamableLemmas.{args_namable, both_namable}
 use Rattle.mc_replay.proofs.naming.namable_in_range.Goals as goal
 
 pub returns-clause-args : goal.returns-clause-args
