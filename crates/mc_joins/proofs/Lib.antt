@@ -5,7 +5,7 @@ mod Agree
 mod Counter
 mod Keeping
 mod Steady
-mod NamedKinds
+pub mod NamedKinds
 pub mod JointKinds
 mod JointEdges
 pub mod JoinMade

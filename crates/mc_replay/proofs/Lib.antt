@@ -1,5 +1,6 @@
 pub mod Finding
 pub mod NamedLemmas
+pub mod NamableLemmas
 pub mod Pairing
 pub mod StepLists
 pub mod FoldLemmas

@@ -1,13 +1,11 @@
 -- Nodes of terms, and what their naming keeps.
 use Rattle.std.proofs.Common.{◌≡◌, ◌<◌, ◌≤◌, ◌+◌, ℕ, suc, Bool, true, false, List, [], ◌∷◌, ◌++◌, ℤ, Option, Result, Ok, Err, map, Some, None, length, drop, get_or, append-nil, refl, sym, ap, ap₂, subst, ◌∙◌, inl, inr, arith, eqb-true}
-use Rattle.std.specs.Prelude.{◌==◌, find, filter, option_map, option_and_then, slice_get}
+use Rattle.std.specs.Prelude.{◌==◌, find, filter, option_map, option_and_then}
 use Rattle.std.specs.List.{AllByRecursion}
 use Rattle.std.specs.Option.{option_or}
 use Rattle.std.proofs.lemmas.List.{drop_more}
 use Rattle.mc_base.specs.declared.ids.NodeId.{NodeId}
-use Rattle.mc_base.specs.declared.ids.PredId.{PredId}
 use Rattle.mc_base.specs.declared.plain.Kind.{Kind}
-use Rattle.mc_flow.specs.declared.defs.rules.Def.{Def}
 use Rattle.mc_base.specs.Nodes.{null}
 use Rattle.mc_pure.specs.Pure.{Kinds, kind_of}
 use Rattle.mc_pure.specs.Rows.{nodes_of}
@@ -32,7 +30,7 @@ use Rattle.mc_cover.specs.Terms.{equal_terms}
 use Rattle.mc_cover.proofs.SearchLemmas.Left.{no_yes}
 use Rattle.mc_kernel.proofs.OracleLemmas.Known.{made_rises, made_fits}
 use Rattle.mc_joins.proofs.AtomsLemmas.Naming.{stays_true}
-use Rattle.mc_joins.specs.Parts.{Basis, Named, own_node, only_state, node_of_term, nodes_of_terms, nodes_of_args, behind}
+use Rattle.mc_joins.specs.Parts.{Basis, Named, own_node, only_state, node_of_term, nodes_of_terms, behind}
 use Rattle.mc_replay.proofs.Finding.{drop_none}
 use Rattle.mc_replay.specs.Named.{TellsFrom, GoodIsTold, NamingKeepsGood, NamingKeepsTests, is_own, with_named}
 
@@ -239,9 +237,3 @@ module _ (w : Basis) where
       so
       ∙ (ap₂ (λ (x : List Kind) (y : List Term). option_map (behind ns) (nodes_of_terms w s x y)) (drop_none ks i l) (drop_none ts i m)
       ∙ ap (λ (z : List NodeId). Some (with_named s z)) (append-nil ns))
-
--- the nodes of the arguments of a predicate that is defined
-pub args_by : (w : Basis) (defs : List Def) (pred : PredId) (s : State) (args : List Term) (def : Def) → w.defs ≡ defs → slice_get defs pred.0 ≡ Some def
-    → nodes_of_args w pred s args ≡ nodes_of_terms w s def.params args
-args_by w defs pred s args def same is =
-    ap (option_and_then (λ (d : Def). nodes_of_terms w s d.params args)) (ap (λ (z : List Def). slice_get z pred.0) same ∙ is)

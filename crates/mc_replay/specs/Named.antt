@@ -1,19 +1,21 @@
 -- Nodes that are named in a state.
-use Rattle.std.specs.Prelude.{◌&&◌, ℤ, Bool, List, [], ◌∷◌, Option, option_and_then}
+use Rattle.std.specs.Prelude.{◌≡◌, ◌&&◌, ℤ, Bool, true, is_some, List, [], ◌∷◌, Option, option_and_then, slice_get}
 use Rattle.mc_base.specs.declared.ids.NodeId.{NodeId}
 use Rattle.mc_base.specs.declared.plain.Kind.{Kind}
 use Rattle.mc_base.specs.declared.plain.VarInfo.{VarInfo}
+use Rattle.mc_flow.specs.declared.defs.rules.Def.{Def}
 use Rattle.mc_flow.specs.declared.defs.shapes.StructInfo.{StructInfo}
 use Rattle.mc_pure.specs.Pure.{Kinds}
 use Rattle.mc_state.specs.declared.terms.Term.{Term}
 use Rattle.mc_state.specs.Facts.{IsFalse}
 use Rattle.mc_state.specs.Fits.{IsWellMade}
 use Rattle.mc_state.specs.Known.{Test, Tells, has_kind}
+use Rattle.mc_state.specs.Lists.{all_both, on_some}
 use Rattle.mc_state.specs.State.{State}
 use Rattle.mc_state.specs.Terms.{plain}
 use Rattle.mc_rules_logic.specs.Fold.Changed.{NamesSpare}
 use Rattle.mc_apply_fold.specs.Forget.Left.{IsMade}
-use Rattle.mc_cover.specs.Terms.{equal_terms}
+use Rattle.mc_cover.specs.Terms.{equal_terms, all_lie_in}
 use Rattle.mc_joins.specs.Laws.{KnowsMade}
 use Rattle.mc_base.specs.declared.ids.PredId.{PredId}
 use Rattle.mc_joins.specs.Parts.{Basis, Named, nodes_of_args}
@@ -49,6 +51,14 @@ GoodIsTold = (s : State) → IsGood s → (know : Test) × Tells know s
 abbrev pub is_own : Test → Kinds → Kind → Term → NodeId → Bool
 is_own know kinds kind t n = has_kind kinds kind n && equal_terms know t (plain n)
 
+-- there is one term for each kind, and it is of a node of that kind
+abbrev pub of_kinds : Kinds → List Kind → List Term → Bool
+of_kinds kinds = all_both (λ kind t. has_kind kinds kind t.node)
+
+-- a predicate is defined, and a test holds of the kinds of its parameters
+abbrev pub on_params : (List Kind → Bool) → List Def → PredId → Bool
+on_params test defs pred = on_some (λ def. test def.params) (slice_get defs pred.0)
+
 -- a state with nodes of it
 abbrev pub with_named : State → List NodeId → Named
 with_named s ns = record { state = s; nodes = ns }
@@ -56,3 +66,21 @@ with_named s ns = record { state = s; nodes = ns }
 -- the nodes of a predicate's end arguments after those of its arguments
 abbrev pub nodes_of_both : Basis → PredId → State → List Term → List Term → Option Named
 nodes_of_both w pred s args ends = option_and_then (λ first. nodes_of_args w pred first.state ends) (nodes_of_args w pred s args)
+
+-- where the arguments of a predicate are of nodes of its parameters' kinds, nodes can be named for them exactly where each
+-- lies in the range of its kind, in the state as it is
+abbrev pub NamableInRange : Type 0
+NamableInRange =
+    (w : Basis) (s : State) → TellsFrom w s → IsGood s → (pred : PredId) (args : List Term)
+    → on_params (λ kinds. of_kinds s.kinds kinds args) w.defs pred ≡ true
+    → is_some (nodes_of_args w pred s args) ≡ on_params (λ kinds. all_lie_in (w.know s) kinds args) w.defs pred
+
+-- and so for its arguments and end arguments
+abbrev pub BothNamableInRange : Type 0
+BothNamableInRange =
+    (w : Basis) (s : State) → TellsFrom w s → IsGood s → (pred : PredId) (args ends : List Term)
+    → on_params (λ kinds. of_kinds s.kinds kinds args) w.defs pred ≡ true
+    → on_params (λ kinds. of_kinds s.kinds kinds ends) w.defs pred ≡ true
+    → is_some (nodes_of_both w pred s args ends)
+    ≡ (on_params (λ kinds. all_lie_in (w.know s) kinds args) w.defs pred
+    && on_params (λ kinds. all_lie_in (w.know s) kinds ends) w.defs pred)

@@ -1,13 +1,15 @@
 // Nodes of terms: their own, or such as are named for them.
-ghost use Rattle.std.specs.Prelude.{◌≡◌, ◌++◌, ◌∷◌, [], ◌&&◌, Some, None, IfOk, OnOk, IsTrue, find, option_map, is_some, List};
+ghost use Rattle.std.specs.Prelude.{◌≡◌, ◌-ℤ◌, ◌∷◌, [], ◌&&◌, Some, None, IfOk, OnOk, find, option_map, is_some};
 ghost use Rattle.mc_base.specs.declared.ids.NodeId.{NodeId as Node};
+ghost use Rattle.mc_base.specs.declared.plain.Atom.TheVariants.{In};
 ghost use Rattle.mc_state.specs.Known.{Test, Tells};
 ghost use Rattle.mc_state.specs.Premises.{Changes};
 ghost use Rattle.mc_rules_logic.specs.Fold.ChangeJudges.{naming_spare};
 ghost use Rattle.mc_apply_fold.specs.Forget.Left.{IsMade};
 ghost use Rattle.mc_joins.specs.Parts.{Basis, own_node, node_of_term, nodes_of_terms, nodes_of_args};
-ghost use Rattle.mc_cover.specs.Terms.{equal_terms};
-ghost use Rattle.mc_replay.specs.Named.{IsGood, TellsFrom, GoodIsTold, NamingKeepsGood, NamingKeepsTests, is_own, nodes_of_both, with_named};
+ghost use Rattle.mc_cover.specs.Terms.{equal_terms, lies_in, all_lie_in};
+ghost use Rattle.mc_replay.specs.Named.{IsGood, TellsFrom, GoodIsTold, NamingKeepsGood, NamingKeepsTests, is_own, with_named};
+ghost use Rattle.mc_replay.specs.Named.{NamableInRange, BothNamableInRange, of_kinds, on_params, nodes_of_both};
 
 use mc_apply_fold::change::{SpareNode, name_spare};
 use mc_base::{Kind, NoMemory, NodeId, PredId};
@@ -177,45 +179,93 @@ pub fn name_args(
     }
 }
 
-/// Whether a term has a node of its own in a kind.
-fn has_own(state: &State, kind: Kind, term: &Term) -> bool
-    ensures { IsTrue result → (w : Basis) → TellsFrom w state.now
-        → (n : Node) × (node_of_term w state.now kind term.now ≡ Some (with_named state.now (n ∷ []))) }
+/// Where terms are of nodes of their kinds, whether nodes can be named for them is read from the state as it is.
+fn namable_in_range()
+    ensures args { NamableInRange }
+    ensures both { BothNamableInRange }
 {
-    match own_node(state, kind, term) {
-        Some(_) => true,
-        None => false,
-    }
+    mc_pure::normal_forms_say_all();
+    mc_pure::derived_grows();
+    mc_pure::each_is_decided();
+    naming_is_judged();
+    naming_makes_well();
+    mc_state::nodes_are_there();
 }
 
-/// Whether each term has a node of its own in its kind.
-fn have_own(state: &State, kinds: &[Kind], terms: &[Term]) -> bool
-    ensures { IsTrue result → (w : Basis) → TellsFrom w state.now
-        → (nodes : List Node) × (nodes_of_terms w state.now kinds.now terms.now ≡ Some (with_named state.now nodes)) }
+/// Whether there is one term for each kind, and it is of a node of that kind.
+#[tactic(auto, using(mc_state::proofs::ListLemmas::all_both_steps))]
+fn are_of_kinds(state: &State, kinds: &[Kind], terms: &[Term]) -> bool
+    ensures { result ≡ of_kinds state.now.kinds kinds.now terms.now }
 {
     if kinds.len() != terms.len() {
         return false;
     }
     for (i, kind) in kinds.iter().enumerate() {
-        if !has_own(state, *kind, &terms[i]) {
+        if !state.has_kind(*kind, terms[i].node) {
             return false;
         }
     }
     true
 }
 
-/// The same for a predicate's arguments.
-fn args_have_own(state: &State, defs: &Defs, pred: PredId, args: &[Term]) -> bool
-    ensures { IsTrue result → (w : Basis) → w.defs ≡ defs.now → TellsFrom w state.now
-        → (nodes : List Node) × (nodes_of_args w pred state.now args.now ≡ Some (with_named state.now nodes)) }
+/// Whether a predicate's arguments are of nodes of its parameters' kinds.
+fn args_are_of_kinds(state: &State, defs: &Defs, pred: PredId, args: &[Term]) -> bool
+    ensures { result ≡ on_params (λ kinds. of_kinds state.now.kinds kinds args.now) defs.now pred }
 {
     match defs.as_slice().get(pred.0 as usize) {
-        Some(def) => have_own(state, def.params.as_slice(), args),
+        Some(def) => are_of_kinds(state, def.params.as_slice(), args),
         None => false,
     }
 }
 
-/// Whether a predicate's arguments have nodes, or such can be named. Where each has one of its own nothing is copied.
+/// Whether a term is entailed to lie from `lo` to `hi`.
+fn lies_between(state: &State, term: &Term, lo: i64, hi: i64) -> bool
+    ensures { (know : Test) → Tells know state.now → result ≡ know (In term.now.node (lo -ℤ term.now.add) (hi -ℤ term.now.add)) }
+{
+    let asked = as_asked(term);
+    let pure = state.known();
+    pure.lies_in(&asked, lo, hi)
+}
+
+/// Whether a term is entailed to lie in the range of a kind.
+fn lies_in(state: &State, kind: Kind, term: &Term) -> bool
+    ensures { (know : Test) → Tells know state.now → result ≡ lies_in know kind term.now }
+{
+    match kind {
+        Kind::Int => lies_between(state, term, -2147483648, 2147483647),
+        Kind::Ptr => lies_between(state, term, 0, 4611686018427387903),
+    }
+}
+
+/// Whether there is one term for each kind, which lies in its range.
+#[tactic(auto, using(mc_state::proofs::ListLemmas::all_both_steps))]
+fn all_lie_in(state: &State, kinds: &[Kind], terms: &[Term]) -> bool
+    ensures { (know : Test) → Tells know state.now → result ≡ all_lie_in know kinds.now terms.now }
+{
+    if kinds.len() != terms.len() {
+        return false;
+    }
+    for (i, kind) in kinds.iter().enumerate() {
+        if !lies_in(state, *kind, &terms[i]) {
+            return false;
+        }
+    }
+    true
+}
+
+/// Whether a predicate's arguments lie in the ranges of its parameters' kinds.
+fn args_lie_in(state: &State, defs: &Defs, pred: PredId, args: &[Term]) -> bool
+    ensures { (know : Test) → Tells know state.now → result ≡ on_params (λ kinds. all_lie_in know kinds args.now) defs.now pred }
+{
+    match defs.as_slice().get(pred.0 as usize) {
+        Some(def) => all_lie_in(state, def.params.as_slice(), args),
+        None => false,
+    }
+}
+
+/// Whether a predicate's arguments have nodes, or such can be named. Where each is of a node of its kind, this is read from
+/// the state as it is. A term of a node of another kind may be equal to one that is named before it: then it is tried in a
+/// copy.
 pub fn can_name(
     alloc: Global,
     state: &State,
@@ -227,8 +277,9 @@ pub fn can_name(
     ensures { IfOk result (λ can. (w : Basis) → w.defs ≡ defs.now → TellsFrom w state.now
         → can ≡ is_some (nodes_of_args w pred state.now args.now)) }
 {
-    if args_have_own(state, defs, pred, args) {
-        return Ok(true);
+    namable_in_range();
+    if args_are_of_kinds(state, defs, pred, args) {
+        return Ok(args_lie_in(state, defs, pred, args));
     }
     let mut trial = state.copy(alloc)?;
     match name_args(alloc, &mut trial, defs, pred, args)? {
@@ -250,8 +301,9 @@ pub fn can_name_both(
     ensures { IfOk result (λ can. (w : Basis) → w.defs ≡ defs.now → TellsFrom w state.now
         → can ≡ is_some (nodes_of_both w pred state.now args.now ends.now)) }
 {
-    if args_have_own(state, defs, pred, args) && args_have_own(state, defs, pred, ends) {
-        return Ok(true);
+    namable_in_range();
+    if args_are_of_kinds(state, defs, pred, args) && args_are_of_kinds(state, defs, pred, ends) {
+        return Ok(args_lie_in(state, defs, pred, args) && args_lie_in(state, defs, pred, ends));
     }
     let mut trial = state.copy(alloc)?;
     match name_args(alloc, &mut trial, defs, pred, args)? {

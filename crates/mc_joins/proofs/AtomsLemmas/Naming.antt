@@ -10,7 +10,7 @@ use Rattle.mc_base.specs.Nodes.{null}
 use Rattle.mc_pure.specs.declared.rows.Row.{Row}
 use Rattle.mc_pure.specs.Pure as pure
 use Rattle.mc_pure.specs.Pure.{Pure, Kinds, Base, IsNode, HasKind, kind_of, kind_atom, low_of, high_of}
-use Rattle.mc_pure.specs.Derived.{Follows, IsFalse, base, chained, shifted}
+use Rattle.mc_pure.specs.Derived.{Follows, IsFalse, base, chained, shifted, widened}
 use Rattle.mc_pure.specs.Normal.{low, high, Holds, IsNormal}
 use Rattle.mc_pure.specs.Classes.{NormalSaysAll}
 use Rattle.mc_pure.specs.Laws.{FollowsFromMore}
@@ -36,7 +36,7 @@ more_kind (k ∷ kinds) x kind a (inr e) = elim (decide k.0 a) [
   ]
 ]
 
-first_kind : (kinds : Kinds) (x : Entry) (kind : Kind) (a : NodeId) → HasKind kinds kind a → HasKind (kinds ++ x ∷ []) kind a
+pub first_kind : (kinds : Kinds) (x : Entry) (kind : Kind) (a : NodeId) → HasKind kinds kind a → HasKind (kinds ++ x ∷ []) kind a
 first_kind kinds x kind a (inl e) = inl e
 first_kind [] x kind a (inr e) = absurd (cc e)
 first_kind (k ∷ kinds) x kind a (inr e) = elim (decide k.0 a) [
@@ -98,7 +98,7 @@ module _ (says : NormalSaysAll) (grows : FollowsFromMore) (p : Pure) (nf : NodeI
   base_kept _ (pure.block i e) = base (pure.block i e)
   base_kept _ (pure.apart i j ne e d) = base (pure.apart i j ne e d)
 
-  kept : (f : Atom) → Follows p f → Follows q f
+  pub kept : (f : Atom) → Follows p f → Follows q f
   kept f d = grows p q node_kept base_kept f d
 
   the_name : Follows q (Eq n node add)
@@ -239,3 +239,10 @@ module _ (says : NormalSaysAll) (grows : FollowsFromMore) (p : Pure) (nf : NodeI
 
   pub stays_true : IsFalse q → ⊥
   stays_true w = not_false q nf' extended w
+
+  -- and of the nodes that were there no smaller range is entailed
+  pub no_new_range : (a : NodeId) (l h : ℤ) → IsNode p.kinds a → Follows q (In a l h) → Follows p (In a l h)
+  no_new_range a l h there d =
+      let x = says q nf' extended (In a l h) d in
+      let ends = subst (λ (r : Row). (l ≤ℤ low r) × (high r ≤ℤ h)) (row_there a (apart a there)) (x.1, x.2) in
+      widened (normal.sound a there).within ends.0 ends.1
