@@ -2,7 +2,7 @@
 ghost use Rattle.std.specs.Prelude.{◌≡◌, option_map};
 ghost use Rattle.std.specs.Option.{option_copied};
 ghost use Rattle.mc_state.specs.Named.{ind_of};
-ghost use Rattle.mc_joins.specs.Steps.{are_blocks, are_inds, are_segs, is_ind};
+ghost use Rattle.mc_joins.specs.Steps.{are_alike, are_blocks, are_inds, are_segs, is_ind};
 ghost use Rattle.mc_replay.specs.Forms.{is_form};
 
 use mc_base::{NodeId, PredId};
@@ -99,4 +99,13 @@ pub fn is_ind(edge: &Edge) -> bool
         Edge::Block { .. } => false,
         Edge::Seg { .. } => false,
     }
+}
+
+/// Whether two edges are of one form.
+pub fn are_alike(left: &Edge, right: &Edge) -> bool
+    ensures { result ≡ are_alike left.now right.now }
+{
+    is_form(Form::Blocks, left, right)
+        || is_form(Form::Inds, left, right)
+        || is_form(Form::Segs, left, right)
 }

@@ -1,9 +1,9 @@
 // Pairs of nodes, one of the left state and one of the right.
-ghost use Rattle.std.specs.Prelude.{◌≡◌, ◌==◌, ◌||◌, not, ◌++◌, ◌∷◌, [], Some, None, OnOk, IfOk, position, option_map, unwrap_or};
+ghost use Rattle.std.specs.Prelude.{◌≡◌, ◌==◌, ◌&&◌, ◌||◌, not, ◌++◌, ◌∷◌, [], Some, None, OnOk, IfOk, position, option_map, unwrap_or};
 ghost use Rattle.std.specs.List.{list_any};
 ghost use Rattle.mc_base.specs.declared.ids.NodeId.{NodeId as Node};
 ghost use Rattle.mc_joins.specs.Joinings.{across, same_side, of_side, same_pair, with_pair, is_alone, partner};
-ghost use Rattle.mc_joins.specs.Steps.{node_for};
+ghost use Rattle.mc_joins.specs.Steps.{may_end, node_for};
 
 use mc_base::{NoMemory, NodeId};
 use mc_state::Side;
@@ -115,4 +115,17 @@ pub fn node_for(pairs: &[Pair], left: NodeId, right: NodeId) -> NodeId
         }
     }
     NodeId(0)
+}
+
+/// Whether a segment may end at a pair: it has the same other node as the step's, and another node than that on the
+/// folded side; none of these is node 0.
+pub fn may_end(side: Side, pair: &Pair, end: &Pair) -> bool
+    ensures { result ≡ may_end side pair.now end.now }
+{
+    let other = across(side);
+    pair.0.0 != 0
+        && pair.1.0 != 0
+        && of_side(other, end).0 == of_side(other, pair).0
+        && of_side(side, end).0 != of_side(side, pair).0
+        && of_side(side, end).0 != 0
 }

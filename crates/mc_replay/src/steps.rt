@@ -5,7 +5,7 @@ ghost use Rattle.std.specs.Option.{option_copied};
 ghost use Rattle.mc_state.specs.Named.{ind_of};
 ghost use Rattle.mc_joins.specs.Joinings.{across, half};
 ghost use Rattle.mc_joins.specs.Parts.{Basis};
-ghost use Rattle.mc_joins.specs.Steps.{edge_there, are_alike, are_unlike, may_end, joined, joined_from, by_both, by_ind, by_folds, no_j6, no_j7};
+ghost use Rattle.mc_joins.specs.Steps.{edge_there, are_unlike, joined, joined_from, by_both, by_ind, by_folds, no_j6, no_j7};
 ghost use Rattle.mc_joins.specs.Steps.{predicates, step_at, after_step, is_stuck};
 ghost use Rattle.mc_replay.specs.Folds.{seen_part};
 ghost use Rattle.mc_replay.specs.Forms.{is_form};
@@ -19,10 +19,10 @@ use crate::folds::{
     IndFold, Part, SegFold, as_it_is, empty_seg, folded_ind, folded_seg, guessed_ind, ind_for,
     ind_has_nodes, seg_for, seg_has_nodes, seg_to,
 };
-use crate::forms::{Form, ind_args, is_form, is_ind};
+use crate::forms::{Form, are_alike, ind_args, is_form, is_ind};
 use crate::joining::Joining;
 use crate::made::{edge_for, put_pairs};
-use crate::pairs::{Pair, across, of_side};
+use crate::pairs::{Pair, across, may_end, of_side};
 use mc_base::{EdgeId, Kind, NoMemory, NodeId, PredId};
 use mc_flow::defs::Defs;
 use mc_state::graph::Edge;
@@ -87,19 +87,6 @@ fn pair_at(join: &Joining, place: u64) -> Option<Pair>
     ensures { result ≡ slice_get (seen join.now).pairs place }
 {
     join.pairs.as_slice().get(place as usize).copied()
-}
-
-/// Whether a segment may end at a pair: it has the same other node as the step's, and another node than that on the
-/// folded side; none of these is node 0.
-fn may_end(side: Side, pair: &Pair, end: &Pair) -> bool
-    ensures { result ≡ may_end side pair.now end.now }
-{
-    let other = across(side);
-    pair.0.0 != 0
-        && pair.1.0 != 0
-        && of_side(other, end).0 == of_side(other, pair).0
-        && of_side(side, end).0 != of_side(side, pair).0
-        && of_side(side, end).0 != 0
 }
 
 /// The fold of J6, which uses an edge, and the empty segment of the other side.
@@ -557,15 +544,6 @@ fn by_four(
 }
 
 // ---- J5
-
-/// Whether two edges are of one form.
-fn are_alike(left: &Edge, right: &Edge) -> bool
-    ensures { result ≡ are_alike left.now right.now }
-{
-    is_form(Form::Blocks, left, right)
-        || is_form(Form::Inds, left, right)
-        || is_form(Form::Segs, left, right)
-}
 
 /// Whether neither side's edge is an Ind, and they are not alike, or one is missing.
 fn are_unlike(join: &Joining, pair: &Pair) -> bool
