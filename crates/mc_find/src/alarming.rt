@@ -1,9 +1,7 @@
 // Attempts for alarms of a program with loops.
-ghost use Rattle.std.specs.Prelude.{Bool, IfOk, IfSome, List};
-ghost use Rattle.mc_flow.specs.declared.defs.rules.Def.{Def};
-ghost use Rattle.mc_flow.specs.declared.graph.Flow.{Flow as Graph};
+ghost use Rattle.std.specs.Prelude.{IfOk, IfSome};
 ghost use Rattle.mc_flow.specs.Valid.{IsValid};
-ghost use Rattle.mc_find.specs.Analysis.Findings.{IsProposed};
+ghost use Rattle.mc_find.specs.Analysis.Findings.{IsFound, IsProposed};
 
 use crate::accepted::reported;
 use crate::analysis::Proposed;
@@ -47,15 +45,6 @@ const fn losing(step: Step, heads: usize) -> Style {
     }
 }
 
-/// How an attempt folds that climbs the ladder.
-const fn climbing() -> Style {
-    Style {
-        rung: first_rung(Step::Plain),
-        heads: 4,
-        nulls: false,
-    }
-}
-
 /// How an attempt folds that fits states to heads at once, null to structures too.
 const fn gathering() -> Style {
     Style {
@@ -66,7 +55,7 @@ const fn gathering() -> Style {
 }
 
 /// How the attempts fold, in their order.
-const fn styles() -> [Style; 8] {
+const fn styles() -> [Style; 7] {
     [
         losing(Step::Plain, 8),
         gathering(),
@@ -75,7 +64,6 @@ const fn styles() -> [Style; 8] {
         losing(Step::Coarse, 4),
         losing(Step::Coarse, 2),
         losing(Step::Coarse, 1),
-        climbing(),
     ]
 }
 
@@ -106,33 +94,157 @@ pub fn first_faults(alloc: Global, task: Task<'_>) -> Result<Vec<Blocked>, NoMem
     Ok(places)
 }
 
-/// What is proposed, and how good it is.
+/// An attempt that is whole, how well it tells, and whether it began as one at a certificate.
 #[derive(Drop)]
-struct Offer {
-    proposed: Proposed,
+struct Offer<'a> {
+    attempt: Attempt<'a>,
     rank: Rank,
+    has_begun: bool,
 }
 
-/// Whether a rank is better than that of what was found before.
-fn is_better(rank: &Rank, best: &Option<Offer>) -> bool {
-    match best {
-        Some(found) => rank.is_better(&found.rank),
+/// Whether a rank is better than those of what was found before, the best of it last.
+fn is_better(rank: &Rank, offers: &[Offer<'_>]) -> bool {
+    match offers.last() {
+        Some(best) => rank.is_better(&best.rank),
         None => true,
     }
 }
 
-/// The lines of an attempt without alarms as a certificate, where they are one.
-fn certificate(
+/// Keeps an attempt that is whole after those that were found before, if it tells better. Its lines, where it is a certificate
+/// after all.
+fn keep<'a>(
     alloc: Global,
-    task: Task<'_>,
+    task: Task<'a>,
     merge: bool,
-    attempt: Attempt<'_>,
-) -> Result<Option<Proposed>, NoMemory>
+    faults: &[Blocked],
+    attempt: Attempt<'a>,
+    has_begun: bool,
+    offers: &mut Vec<Offer<'a>>,
+) -> Result<Option<Vec<Line>>, NoMemory>
     requires { IsValid task.sight.flow.now task.sight.defs.now }
-    ensures { IfOk result (λ found. IfSome found (λ proposed. IsProposed task.entry.sight.flow.now task.entry.sight.defs.now merge proposed)) }
+    ensures { IfOk result (λ found. IfSome found (λ lines. IsFound task.entry.sight.flow.now task.entry.sight.defs.now merge lines.items)) }
 {
-    match certified(alloc, task, merge, attempt)? {
-        Some(lines) => Ok(Some(Proposed::Certificate(lines))),
+    let rank = Rank::of(&attempt, faults)?;
+    if !is_better(&rank, offers.as_slice()) {
+        return Ok(None);
+    }
+    if rank.alarms == 0 {
+        return certified(alloc, task, merge, attempt);
+    }
+    offers.push(Offer {
+        attempt,
+        rank,
+        has_begun,
+    })?;
+    Ok(None)
+}
+
+/// One attempt, for which at most so many steps are left; what it takes is left no more. Its lines, where it is a certificate
+/// after all.
+fn try_style<'a>(
+    alloc: Global,
+    task: Task<'a>,
+    style: Style,
+    limits: Limits,
+    faults: &[Blocked],
+    offers: &mut Vec<Offer<'a>>,
+    left: &mut u64,
+) -> Result<Option<Vec<Line>>, NoMemory>
+    requires { IsValid task.sight.flow.now task.sight.defs.now }
+    ensures { IfOk result (λ found. IfSome found (λ lines. IsFound task.entry.sight.flow.now task.entry.sight.defs.now limits.merge lines.items)) }
+{
+    let steps = at_least(task, STEPS, STEPS_EACH).min(*left);
+    let mut attempt = Attempt::new(alloc, task, Aim::Chain, style, limits, steps)?;
+    let is_whole = attempt.run()?;
+    *left = left.saturating_sub(steps.saturating_sub(attempt.left()));
+    if is_whole {
+        keep(alloc, task, limits.merge, faults, attempt, false, offers)
+    } else {
+        Ok(None)
+    }
+}
+
+/// An attempt at a certificate that goes on as one at a chain: where no fault is known, with other plans of its cuts first. Its
+/// lines, where it is a certificate after all.
+fn try_begun<'a>(
+    alloc: Global,
+    task: Task<'a>,
+    limits: Limits,
+    faults: &[Blocked],
+    begun: Attempt<'a>,
+    offers: &mut Vec<Offer<'a>>,
+) -> Result<Option<Vec<Line>>, NoMemory>
+    requires { IsValid task.sight.flow.now task.sight.defs.now }
+    ensures { IfOk result (λ found. IfSome found (λ lines. IsFound task.entry.sight.flow.now task.entry.sight.defs.now limits.merge lines.items)) }
+{
+    let mut attempt = begun;
+    let first = if faults.is_empty() {
+        all_steps(task) / 8
+    } else {
+        0
+    };
+    attempt.turn_to_chain(faults, first)?;
+    let mut is_whole = attempt.run()?;
+    if !is_whole {
+        attempt.stop_blaming(at_least(task, STEPS, STEPS_EACH))?;
+        is_whole = attempt.run()?;
+    }
+    if is_whole {
+        keep(alloc, task, limits.merge, faults, attempt, true, offers)
+    } else {
+        Ok(None)
+    }
+}
+
+/// Whether nothing better is looked for: no fault is met before anything is folded, or they are told as they are met.
+fn is_settled(offers: &[Offer<'_>], faults: &[Blocked]) -> bool {
+    match offers.last() {
+        Some(best) => best.rank.is_best() || faults.is_empty(),
+        None => false,
+    }
+}
+
+/// Whether what was found tells just the faults that are met before anything is folded.
+fn is_right(offers: &[Offer<'_>]) -> bool {
+    match offers.last() {
+        Some(best) => best.rank.is_right(),
+        None => false,
+    }
+}
+
+/// Whether an attempt of this style may tell better. The one that fits null to structures has fewer heads, and is made where
+/// what is right is told too often; no other one where what had begun is right.
+fn is_needed(style: &Style, offers: &[Offer<'_>], faults: &[Blocked]) -> bool {
+    if is_settled(offers, faults) {
+        return false;
+    }
+    if style.nulls {
+        is_right(offers)
+    } else {
+        !offers
+            .iter()
+            .any(|offer| offer.has_begun && offer.rank.is_right())
+    }
+}
+
+/// Goes on with the attempt that has begun, if it is still there and may tell better. Its lines, where it is a certificate
+/// after all.
+fn after_begun<'a>(
+    alloc: Global,
+    task: Task<'a>,
+    limits: Limits,
+    faults: &[Blocked],
+    begun: &mut Option<Attempt<'a>>,
+    offers: &mut Vec<Offer<'a>>,
+) -> Result<Option<Vec<Line>>, NoMemory>
+    requires { IsValid task.sight.flow.now task.sight.defs.now }
+    ensures { IfOk result (λ found. IfSome found (λ lines. IsFound task.entry.sight.flow.now task.entry.sight.defs.now limits.merge lines.items)) }
+{
+    if is_settled(offers.as_slice(), faults) || is_right(offers.as_slice()) {
+        return Ok(None);
+    }
+    match begun.take() {
+        Some(attempt) => try_begun(alloc, task, limits, faults, attempt, offers),
         None => Ok(None),
     }
 }
@@ -160,213 +272,62 @@ fn chain(
     }
 }
 
-/// What an attempt proposes that is whole.
-fn offered(
+/// The chain of the best attempt that is accepted.
+fn best_of(
     alloc: Global,
     task: Task<'_>,
     merge: bool,
-    attempt: Attempt<'_>,
-    rank: Rank,
+    offers: Vec<Offer<'_>>,
 ) -> Result<Option<Proposed>, NoMemory>
     requires { IsValid task.sight.flow.now task.sight.defs.now }
     ensures { IfOk result (λ found. IfSome found (λ proposed. IsProposed task.entry.sight.flow.now task.entry.sight.defs.now merge proposed)) }
 {
-    if rank.alarms == 0 {
-        certificate(alloc, task, merge, attempt)
-    } else {
-        chain(alloc, task, merge, attempt)
+    let mut rest = offers;
+    for _ in 0..rest.len() {
+        let Some(best) = rest.pop() else {
+            return Ok(None);
+        };
+        let told = chain(alloc, task, merge, best.attempt)?;
+        if told.is_some() {
+            return Ok(told);
+        }
     }
+    Ok(None)
 }
 
-/// What an attempt proposes that is whole, where that is better than the best before.
-fn compared(
+/// The attempts one after the other, where these faults are met before anything is folded, among them one at a certificate
+/// that has begun: it comes first where there is no fault, else after the first one. The chain that tells best what is met so,
+/// or a certificate after all. None says only that nothing was found.
+pub fn try_all<'a>(
     alloc: Global,
-    task: Task<'_>,
-    merge: bool,
-    attempt: Attempt<'_>,
-    faults: &[Blocked],
-    best: &Option<Offer>,
-) -> Result<Option<Offer>, NoMemory>
-    requires { IsValid task.sight.flow.now task.sight.defs.now }
-    ensures { IfOk result (λ found. IfSome found (λ offer. IsProposed task.entry.sight.flow.now task.entry.sight.defs.now merge offer.proposed)) }
-{
-    let rank = Rank::of(&attempt, faults)?;
-    if !is_better(&rank, best) {
-        return Ok(None);
-    }
-    match offered(alloc, task, merge, attempt, rank)? {
-        Some(proposed) => Ok(Some(Offer { proposed, rank })),
-        None => Ok(None),
-    }
-}
-
-/// One attempt, for which at most so many steps are left; what it takes is left no more. What it proposes, where that is
-/// better than the best before.
-fn try_one(
-    alloc: Global,
-    task: Task<'_>,
-    style: Style,
+    task: Task<'a>,
     limits: Limits,
     faults: &[Blocked],
-    best: &Option<Offer>,
-    left: &mut u64,
-) -> Result<Option<Offer>, NoMemory>
-    requires { IsValid task.sight.flow.now task.sight.defs.now }
-    ensures { IfOk result (λ found. IfSome found (λ offer. IsProposed task.entry.sight.flow.now task.entry.sight.defs.now limits.merge offer.proposed)) }
-{
-    let steps = at_least(task, STEPS, STEPS_EACH).min(*left);
-    let mut attempt = Attempt::new(alloc, task, Aim::Chain, style, limits, steps)?;
-    let is_whole = attempt.run()?;
-    *left = left.saturating_sub(steps.saturating_sub(attempt.left()));
-    if is_whole {
-        compared(alloc, task, limits.merge, attempt, faults, best)
-    } else {
-        Ok(None)
-    }
-}
-
-/// What an attempt at a certificate proposes that goes on as one at a chain.
-fn try_begun(
-    alloc: Global,
-    task: Task<'_>,
-    limits: Limits,
-    begun: Attempt<'_>,
-    faults: &[Blocked],
-    best: &Option<Offer>,
-) -> Result<Option<Offer>, NoMemory>
-    requires { IsValid task.sight.flow.now task.sight.defs.now }
-    ensures { IfOk result (λ found. IfSome found (λ offer. IsProposed task.entry.sight.flow.now task.entry.sight.defs.now limits.merge offer.proposed)) }
-{
-    let mut attempt = begun;
-    let steps = at_least(task, STEPS, STEPS_EACH);
-    let first = if faults.is_empty() {
-        all_steps(task) / 2
-    } else {
-        steps / 4
-    };
-    attempt.turn_to_chain(faults, first)?;
-    let mut is_whole = attempt.run()?;
-    if !is_whole {
-        attempt.stop_blaming(steps)?;
-        is_whole = attempt.run()?;
-    }
-    if is_whole {
-        compared(alloc, task, limits.merge, attempt, faults, best)
-    } else {
-        Ok(None)
-    }
-}
-
-/// Whether nothing better is looked for: no fault is met before anything is folded, or they are told as they are met.
-fn is_settled(best: &Option<Offer>, faults: &[Blocked]) -> bool {
-    match best {
-        Some(found) => found.rank.is_best() || faults.is_empty(),
-        None => false,
-    }
-}
-
-/// Whether what was found tells just the faults that are met before anything is folded.
-fn is_right(best: &Option<Offer>) -> bool {
-    match best {
-        Some(found) => found.rank.is_right(),
-        None => false,
-    }
-}
-
-/// Whether an attempt of this style may tell better. The one that climbs the ladder takes long, and is made where nothing
-/// is right so far; the one that fits null to structures has fewer heads, and is made where what is right is told too often.
-fn is_needed(style: &Style, best: &Option<Offer>, faults: &[Blocked]) -> bool {
-    if is_settled(best, faults) {
-        return false;
-    }
-    if style.nulls {
-        is_right(best)
-    } else {
-        style.rung.loses || !is_right(best)
-    }
-}
-
-/// What was found best.
-fn best_of(best: Option<Offer>) -> Option<Proposed>
-    ensures { (flow : Graph) (defs : List Def) (merge : Bool) → IfSome best (λ offer. IsProposed flow defs merge offer.proposed)
-        → IfSome result (λ proposed. IsProposed flow defs merge proposed) }
-{
-    match best {
-        Some(found) => Some(found.proposed),
-        None => None,
-    }
-}
-
-/// What is best after an attempt that has begun, if it is still there and may tell better.
-fn after_begun(
-    alloc: Global,
-    task: Task<'_>,
-    limits: Limits,
-    faults: &[Blocked],
-    begun: &mut Option<Attempt<'_>>,
-    best: Option<Offer>,
-) -> Result<Option<Offer>, NoMemory>
-    requires valid { IsValid task.sight.flow.now task.sight.defs.now }
-    requires best { IfSome best (λ offer. IsProposed task.sight.flow.now task.sight.defs.now limits.merge offer.proposed) }
-    ensures { IfOk result (λ found. IfSome found (λ offer. IsProposed task.entry.sight.flow.now task.entry.sight.defs.now limits.merge offer.proposed)) }
-{
-    if is_settled(&best, faults) || is_right(&best) {
-        return Ok(best);
-    }
-    let Some(attempt) = begun.take() else {
-        return Ok(best);
-    };
-    match try_begun(alloc, task, limits, attempt, faults, &best)? {
-        Some(found) => Ok(Some(found)),
-        None => Ok(best),
-    }
-}
-
-/// What is best after an attempt of a style, if that may tell better and some of so many steps are left.
-fn after_style(
-    alloc: Global,
-    task: Task<'_>,
-    style: Style,
-    limits: Limits,
-    faults: &[Blocked],
-    best: Option<Offer>,
-    left: &mut u64,
-) -> Result<Option<Offer>, NoMemory>
-    requires valid { IsValid task.sight.flow.now task.sight.defs.now }
-    requires best { IfSome best (λ offer. IsProposed task.sight.flow.now task.sight.defs.now limits.merge offer.proposed) }
-    ensures { IfOk result (λ found. IfSome found (λ offer. IsProposed task.entry.sight.flow.now task.entry.sight.defs.now limits.merge offer.proposed)) }
-{
-    if *left == 0 || !is_needed(&style, &best, faults) {
-        return Ok(best);
-    }
-    match try_one(alloc, task, style, limits, faults, &best, left)? {
-        Some(found) => Ok(Some(found)),
-        None => Ok(best),
-    }
-}
-
-/// The attempts one after the other, where these faults are met before anything is folded, among them one that has begun: it
-/// comes first where there is no fault, else after the first one. The chain that tells best what is met so, or a certificate
-/// after all. None says only that nothing was found.
-pub fn try_all(
-    alloc: Global,
-    task: Task<'_>,
-    limits: Limits,
-    faults: &[Blocked],
-    begun: Option<Attempt<'_>>,
+    begun: Attempt<'a>,
 ) -> Result<Option<Proposed>, NoMemory>
     requires { IsValid task.sight.flow.now task.sight.defs.now }
     ensures { IfOk result (λ found. IfSome found (λ proposed. IsProposed task.entry.sight.flow.now task.entry.sight.defs.now limits.merge proposed)) }
 {
     let mut left = at_least(task, STEPS, STEPS_EACH).saturating_mul(WHOLE);
-    let mut rest = begun;
-    let mut best: Option<Offer> = None;
+    let mut rest = Some(begun);
+    let mut offers = Vec::new(alloc);
     if faults.is_empty() {
-        best = after_begun(alloc, task, limits, faults, &mut rest, best)?;
+        let found = after_begun(alloc, task, limits, faults, &mut rest, &mut offers)?;
+        if let Some(lines) = found {
+            return Ok(Some(Proposed::Certificate(lines)));
+        }
     }
     for style in &styles() {
-        best = after_style(alloc, task, *style, limits, faults, best, &mut left)?;
-        best = after_begun(alloc, task, limits, faults, &mut rest, best)?;
+        if left > 0 && is_needed(style, offers.as_slice(), faults) {
+            let found = try_style(alloc, task, *style, limits, faults, &mut offers, &mut left)?;
+            if let Some(lines) = found {
+                return Ok(Some(Proposed::Certificate(lines)));
+            }
+        }
+        let found = after_begun(alloc, task, limits, faults, &mut rest, &mut offers)?;
+        if let Some(lines) = found {
+            return Ok(Some(Proposed::Certificate(lines)));
+        }
     }
-    Ok(best_of(best))
+    best_of(alloc, task, limits.merge, offers)
 }

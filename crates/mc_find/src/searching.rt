@@ -27,7 +27,10 @@ fn settle(
 {
     match certified(alloc, task, limits.merge, attempt)? {
         Some(lines) => Ok(Some(Proposed::Certificate(lines))),
-        None => try_all(alloc, task, limits, &[], None),
+        None => {
+            let begun = new_attempt(alloc, task, limits, 0)?;
+            try_all(alloc, task, limits, &[], begun)
+        }
     }
 }
 
@@ -46,8 +49,8 @@ fn search_on(
 {
     let mut attempt = begun;
     let faults = first_faults(alloc, task)?;
-    attempt.blame_cuts();
     if faults.is_empty() {
+        attempt.blame_cuts();
         if attempt.run()? {
             return settle(alloc, task, limits, attempt);
         }
@@ -55,7 +58,7 @@ fn search_on(
             return Ok(Some(Proposed::Certificate(lines)));
         }
     }
-    try_all(alloc, task, limits, faults.as_slice(), Some(attempt))
+    try_all(alloc, task, limits, faults.as_slice(), attempt)
 }
 
 /// The attempts at a program: certificates first, then chains.

@@ -1,5 +1,5 @@
 // The arguments that edges in front of a node ask for.
-use crate::naming::{call_terms, known_name, known_terms, partial_names};
+use crate::naming::{call_terms, known_terms, name_at, partial_names};
 use mc_base::{NoMemory, NodeId, PredId};
 use mc_find_paths::trail::plain;
 use mc_flow::defs::{Def, Rule};
@@ -77,11 +77,9 @@ fn call_at(
     edge: &Edge,
     at: NodeId,
 ) -> Result<Option<usize>, NoMemory> {
-    let none = vec![in alloc; None; def.params.len()]?;
-    let names = partial_names(alloc, rule, edge, none.as_slice())?;
     for (place, call) in rule.calls.as_slice().iter().enumerate() {
         if call.pred == pred {
-            if let Some(term) = known_name(names.as_slice(), call.at) {
+            if let Some(term) = name_at(alloc, def, rule, edge, call.at)? {
                 if term.add == 0 && state.are_equal(term.node, at) {
                     return Ok(Some(place));
                 }

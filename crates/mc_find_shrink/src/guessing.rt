@@ -1,9 +1,9 @@
 // A guess of a predicate's arguments in which what a rule says itself comes before what its calls tell.
 use crate::asked::args_at;
-use crate::naming::{as_known, known_name, learn_all, partial_names};
+use crate::naming::{as_known, known_name, learn_all, name_at, partial_names};
 use mc_base::{NoMemory, NodeId, PredId};
 use mc_find_paths::trail::plain;
-use mc_flow::defs::Def;
+use mc_flow::defs::{Def, Rule};
 use mc_state::Term;
 use mc_state::graph::Edge;
 use mc_symbolic::State;
@@ -80,6 +80,13 @@ fn body_at(state: &State, pred: PredId, def: &Def, at: NodeId) -> Option<Body> {
     None
 }
 
+/// The rule of a body and its block.
+fn parts_of<'a>(state: &'a State, def: &'a Def, body: Body) -> Option<(&'a Rule, &'a Edge)> {
+    let rule = def.rules.as_slice().get(body.rule)?;
+    let entry = state.edges().get(body.place)?;
+    Some((rule, &entry.1))
+}
+
 /// The names at a body, as far as they are known without the arguments.
 fn names_at(
     alloc: Global,
@@ -88,12 +95,9 @@ fn names_at(
     body: Body,
 ) -> Result<Vec<Option<Term>>, NoMemory> {
     let none = vec![in alloc; None; def.params.len()]?;
-    match (
-        def.rules.as_slice().get(body.rule),
-        state.edges().get(body.place),
-    ) {
-        (Some(rule), Some(entry)) => partial_names(alloc, rule, &entry.1, none.as_slice()),
-        _ => Ok(Vec::new(alloc)),
+    match parts_of(state, def, body) {
+        Some((rule, edge)) => partial_names(alloc, rule, edge, none.as_slice()),
+        None => Ok(Vec::new(alloc)),
     }
 }
 
@@ -105,24 +109,21 @@ fn call_node(
     pred: PredId,
     body: Body,
 ) -> Result<Option<NodeId>, NoMemory> {
-    let names = names_at(alloc, state, def, body)?;
-    let Some(rule) = def.rules.as_slice().get(body.rule) else {
+    let Some((rule, edge)) = parts_of(state, def, body) else {
         return Ok(None);
     };
-    match rule.calls.as_slice().get(body.call) {
-        Some(call) => {
-            if call.pred != pred {
-                return Ok(None);
-            }
-            match known_name(names.as_slice(), call.at) {
-                Some(term) => {
-                    if term.add == 0 {
-                        Ok(Some(term.node))
-                    } else {
-                        Ok(None)
-                    }
-                }
-                None => Ok(None),
+    let Some(call) = rule.calls.as_slice().get(body.call) else {
+        return Ok(None);
+    };
+    if call.pred != pred {
+        return Ok(None);
+    }
+    match name_at(alloc, def, rule, edge, call.at)? {
+        Some(term) => {
+            if term.add == 0 {
+                Ok(Some(term.node))
+            } else {
+                Ok(None)
             }
         }
         None => Ok(None),
@@ -144,13 +145,12 @@ fn push_calls(
     let Some(body) = body_at(state, pred, def, from.node) else {
         return Ok(());
     };
-    let names = names_at(alloc, state, def, body)?;
-    let Some(rule) = def.rules.as_slice().get(body.rule) else {
+    let Some((rule, edge)) = parts_of(state, def, body) else {
         return Ok(());
     };
     for call in rule.calls.as_slice() {
         if call.pred == pred {
-            if let Some(term) = known_name(names.as_slice(), call.at) {
+            if let Some(term) = name_at(alloc, def, rule, edge, call.at)? {
                 open.push(Below {
                     node: term.node,
                     depth: from.depth.saturating_add(1),

@@ -1,7 +1,6 @@
 // Whether a fold hides a node that is still needed.
 use crate::Survey;
-use crate::survey::is_live_at;
-use mc_base::{EdgeId, Kind, NodeId, VarId};
+use mc_base::{EdgeId, NodeId};
 use mc_find_view::sight::{Nodes, edge_names};
 use mc_state::Term;
 
@@ -56,7 +55,7 @@ fn hides_start(nodes: &Nodes<'_>, survey: &Survey, fold: &Fold<'_>, start: NodeI
     if nodes.state.are_equal(start, fold.start) {
         return false;
     }
-    if is_live_at(nodes, start) || is_kept_at(nodes, survey, fold, start) {
+    if survey.live.has(nodes.state, start) || is_kept_at(nodes, survey, fold, start) {
         return true;
     }
     if is_among(nodes, start, fold.back) {
@@ -89,15 +88,8 @@ fn loses(nodes: &Nodes<'_>, survey: &Survey, fold: &Fold<'_>, node: NodeId) -> b
 
 /// Whether a fold loses the node of a live pointer.
 fn loses_variable(nodes: &Nodes<'_>, survey: &Survey, fold: &Fold<'_>) -> bool {
-    for place in 0..nodes.state.env().len() {
-        let x = VarId(place as u64);
-        if let Some(node) = nodes.sight.live_node(nodes.state, nodes.point, x) {
-            if nodes.sight.var_kind(x) == Kind::Ptr && loses(nodes, survey, fold, node) {
-                return true;
-            }
-        }
-    }
-    false
+    let live = survey.live.pointers();
+    live.iter().any(|node| loses(nodes, survey, fold, *node))
 }
 
 /// Whether a fold hides a node that is still needed.

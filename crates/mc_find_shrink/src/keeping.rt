@@ -1,5 +1,5 @@
 // Which blocks stay.
-use crate::survey::is_live_at;
+use crate::survey::Live;
 use crate::{Manner, Step};
 use mc_base::{Kind, NoMemory, NodeId, StructId};
 use mc_find_view::sight::{Nodes, edge_names, is_dead_field};
@@ -24,11 +24,11 @@ fn has_dead_pointer(
 }
 
 /// Whether a block stays for a live variable.
-fn stays_for_variable(manner: Manner<'_>, nodes: &Nodes<'_>, edge: &Edge) -> bool {
+fn stays_for_variable(manner: Manner<'_>, nodes: &Nodes<'_>, live: &Live, edge: &Edge) -> bool {
     let Edge::Block { at, shape, fields } = edge else {
         return false;
     };
-    if !is_live_at(nodes, *at) {
+    if !live.has(nodes.state, *at) {
         return false;
     }
     let is_coarse = manner.step == Step::Coarse || manner.step == Step::Match;
@@ -36,13 +36,16 @@ fn stays_for_variable(manner: Manner<'_>, nodes: &Nodes<'_>, edge: &Edge) -> boo
 }
 
 /// Whether a block has a field at a live variable's node.
-fn stands_before(nodes: &Nodes<'_>, edge: &Edge) -> bool {
+fn stands_before(nodes: &Nodes<'_>, live: &Live, edge: &Edge) -> bool {
     let Edge::Block { fields, .. } = edge else {
         return false;
     };
     for field in fields.as_slice() {
         if let Some(node) = field {
-            if node.0 != 0 && !nodes.state.are_equal(*node, NodeId(0)) && is_live_at(nodes, *node) {
+            if node.0 != 0
+                && !nodes.state.are_equal(*node, NodeId(0))
+                && live.has(nodes.state, *node)
+            {
                 return true;
             }
         }
@@ -156,12 +159,13 @@ fn keep_leading(
 fn keep_before(
     alloc: Global,
     nodes: &Nodes<'_>,
+    live: &Live,
     count: usize,
     kept: &mut Vec<bool>,
 ) -> Result<(), NoMemory> {
     let mut before = vec![in alloc; false; nodes.state.edges().len()]?;
     for (place, entry) in nodes.state.edges().iter().enumerate() {
-        if stands_before(nodes, &entry.1) {
+        if stands_before(nodes, live, &entry.1) {
             mark(&mut before, place);
             mark(kept, place);
         }
@@ -177,13 +181,14 @@ pub fn kept_blocks(
     alloc: Global,
     manner: Manner<'_>,
     nodes: &Nodes<'_>,
+    live: &Live,
 ) -> Result<Vec<bool>, NoMemory> {
     let mut kept = Vec::with_capacity(alloc, nodes.state.edges().len())?;
     for entry in nodes.state.edges() {
-        kept.push(stays_for_variable(manner, nodes, &entry.1))?;
+        kept.push(stays_for_variable(manner, nodes, live, &entry.1))?;
     }
     if manner.before > 0 {
-        keep_before(alloc, nodes, manner.before, &mut kept)?;
+        keep_before(alloc, nodes, live, manner.before, &mut kept)?;
     }
     for _ in 0..nodes.state.edges().len() {
         if !keep_shared(nodes, &mut kept) {

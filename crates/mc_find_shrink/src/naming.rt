@@ -1,7 +1,7 @@
 // The names of rules, as far as they are known.
 use mc_base::{NoMemory, NodeId};
 use mc_find_paths::trail::plain;
-use mc_flow::defs::{DefAtom, Rule};
+use mc_flow::defs::{Def, DefAtom, Rule};
 use mc_state::Term;
 use mc_state::graph::Edge;
 use std::alloc::Global;
@@ -120,6 +120,36 @@ pub fn partial_names(
     }
     settle(&mut names, rule);
     Ok(names)
+}
+
+/// The term of a name among those that come first: the start, the parameters, what the fields of a block hold.
+fn first_name(params: usize, edge: &Edge, name: u64) -> Option<Term> {
+    if name == 0 {
+        return Some(plain(edge.start()));
+    }
+    let Edge::Block { fields, .. } = edge else {
+        return None;
+    };
+    let field = (name as usize).checked_sub(params)?.checked_sub(1)?;
+    fields.as_slice().get(field).copied().flatten().map(plain)
+}
+
+/// The term of a name of a predicate's rule at a block, as far as it follows without the arguments.
+pub fn name_at(
+    alloc: Global,
+    def: &Def,
+    rule: &Rule,
+    edge: &Edge,
+    name: u64,
+) -> Result<Option<Term>, NoMemory> {
+    let params = def.params.len();
+    let first = first_name(params, edge, name);
+    if first.is_some() {
+        return Ok(first);
+    }
+    let none = vec![in alloc; None; params]?;
+    let names = partial_names(alloc, rule, edge, none.as_slice())?;
+    Ok(known_name(names.as_slice(), name))
 }
 
 /// The terms as terms that are known.

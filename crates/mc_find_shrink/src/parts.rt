@@ -1,12 +1,12 @@
 // Folds of one block into a segment.
 use crate::folds::Found;
 use crate::hiding::{Fold, hides};
-use crate::naming::{as_known, call_terms, known_name, known_terms, partial_names};
+use crate::naming::{as_known, call_terms, known_terms, name_at, partial_names};
 use crate::taken::taken_by;
 use crate::trying::candidates;
 use crate::whole::push_back_terms;
 use crate::{Manner, Survey};
-use mc_base::{NoMemory, NodeId, PredId};
+use mc_base::{EdgeId, NoMemory, NodeId, PredId};
 use mc_cover::Mark;
 use mc_cover::search::seg_cover;
 use mc_find_paths::trail::plain;
@@ -38,12 +38,6 @@ fn is_progress(marks: &[Mark]) -> bool {
 }
 
 impl Try<'_> {
-    /// Where the call stands, as far as that follows from some arguments.
-    fn end(&self, alloc: Global, args: &[Option<Term>]) -> Result<Option<Term>, NoMemory> {
-        let names = partial_names(alloc, self.rule, self.edge, args)?;
-        Ok(known_name(names.as_slice(), self.call.at))
-    }
-
     /// The arguments of the call.
     fn ends(&self, alloc: Global, args: &[Term]) -> Result<Option<Vec<Term>>, NoMemory> {
         let known = as_known(alloc, args)?;
@@ -76,10 +70,11 @@ impl Try<'_> {
         Ok(!hides(self.nodes, self.survey, &fold))
     }
 
-    /// The marks of the segment with these arguments, where it hides nothing.
+    /// The marks of the segment with these arguments, where it takes nothing that is barred and hides nothing.
     fn marks(
         &self,
         alloc: Global,
+        barred: &[EdgeId],
         args: &[Term],
         end: Term,
     ) -> Result<Option<Vec<Mark>>, NoMemory> {
@@ -94,7 +89,7 @@ impl Try<'_> {
             alloc,
             state,
             self.manner.sight.defs,
-            self.survey.kept_ids.as_slice(),
+            barred,
             self.pred,
             plain(self.edge.start()),
             args,
@@ -115,8 +110,7 @@ impl Try<'_> {
 
     /// The fold, if there is one.
     fn find(&self, alloc: Global) -> Result<Option<Found>, NoMemory> {
-        let none = vec![in alloc; None; self.def.params.len()]?;
-        let Some(end) = self.end(alloc, none.as_slice())? else {
+        let Some(end) = name_at(alloc, self.def, self.rule, self.edge, self.call.at)? else {
             return Ok(None);
         };
         let state = self.nodes.state;
@@ -139,8 +133,9 @@ impl Try<'_> {
             Some(end),
             room,
         )?;
+        let barred = self.survey.barred(alloc, state, at, true)?;
         for args in list {
-            if let Some(marks) = self.marks(alloc, args.as_slice(), end)? {
+            if let Some(marks) = self.marks(alloc, barred.as_slice(), args.as_slice(), end)? {
                 return Ok(Some(Found::Cover {
                     pred: self.pred,
                     at,

@@ -1,6 +1,6 @@
 // What is known of a state before it is folded.
 use crate::keeping::kept_blocks;
-use mc_base::{EdgeId, NoMemory, NodeId, PointId, PredId, VarId};
+use mc_base::{EdgeId, Kind, NoMemory, NodeId, PointId, PredId, VarId};
 use mc_find_view::live::Asserted;
 use mc_find_view::sight::{Nodes, Sight, look};
 use mc_symbolic::State;
@@ -32,12 +32,21 @@ pub struct Manner<'a> {
     pub room: i64,
 }
 
-/// Which edges of a state are reached from its live variables, and which of them stay.
+/// The nodes of the live variables of a state, each once: of all, and of the pointers.
+#[derive(Drop)]
+pub struct Live {
+    all: Vec<NodeId>,
+    pointers: Vec<NodeId>,
+}
+
+/// Which edges of a state are reached from its live variables, which of them stay, and which start at a live variable's node.
 #[derive(Drop)]
 pub struct Survey {
     pub used: Vec<bool>,
     pub kept: Vec<bool>,
     pub kept_ids: Vec<EdgeId>,
+    pub live: Live,
+    at_live: Vec<bool>,
 }
 
 impl Survey {
@@ -54,17 +63,22 @@ impl Survey {
             state,
             point,
         };
-        let kept = kept_blocks(alloc, manner, &nodes)?;
+        let live = Live::of(alloc, &nodes)?;
+        let kept = kept_blocks(alloc, manner, &nodes, &live)?;
         let mut kept_ids = Vec::new(alloc);
+        let mut at_live = Vec::with_capacity(alloc, state.edges().len())?;
         for (place, entry) in state.edges().iter().enumerate() {
             if kept.as_slice().get(place).copied().unwrap_or(false) {
                 kept_ids.push(entry.0)?;
             }
+            at_live.push(live.has(state, entry.1.start()))?;
         }
         Ok(Survey {
             used: seen.used,
             kept,
             kept_ids,
+            live,
+            at_live,
         })
     }
 
@@ -77,17 +91,71 @@ impl Survey {
     pub fn is_kept(&self, place: usize) -> bool {
         self.kept.as_slice().get(place).copied().unwrap_or(false)
     }
-}
 
-/// Whether a live variable stands at a node.
-pub fn is_live_at(nodes: &Nodes<'_>, node: NodeId) -> bool {
-    for place in 0..nodes.state.env().len() {
-        let x = VarId(place as u64);
-        if let Some(own) = nodes.sight.live_node(nodes.state, nodes.point, x) {
-            if nodes.state.are_equal(own, node) {
-                return true;
+    /// Whether the edge at a place starts at a live variable's node.
+    fn is_at_live(&self, place: usize) -> bool {
+        self.at_live.as_slice().get(place).copied().unwrap_or(false)
+    }
+
+    /// The edges that a fold at a node may not take: those at other live variables' nodes, which it would hide, and, if asked
+    /// for, those that stay.
+    pub fn barred(
+        &self,
+        alloc: Global,
+        state: &State,
+        at: NodeId,
+        with_kept: bool,
+    ) -> Result<Vec<EdgeId>, NoMemory> {
+        let mut list = Vec::with_capacity(alloc, state.edges().len())?;
+        for (place, entry) in state.edges().iter().enumerate() {
+            let stays = with_kept && self.is_kept(place);
+            if stays || (self.is_at_live(place) && !state.are_equal(entry.1.start(), at)) {
+                list.push(entry.0)?;
             }
         }
+        Ok(list)
     }
-    false
+}
+
+/// Adds a node to a list, unless it is equal to one of it.
+fn push_node(list: &mut Vec<NodeId>, state: &State, node: NodeId) -> Result<(), NoMemory> {
+    if !is_in(state, list.as_slice(), node) {
+        list.push(node)?;
+    }
+    Ok(())
+}
+
+/// Whether a node is equal to one of a list.
+fn is_in(state: &State, list: &[NodeId], node: NodeId) -> bool {
+    list.contains(&node) || list.iter().any(|own| state.are_equal(*own, node))
+}
+
+impl Live {
+    /// The nodes of the live variables.
+    pub fn of(alloc: Global, nodes: &Nodes<'_>) -> Result<Live, NoMemory> {
+        let mut live = Live {
+            all: Vec::new(alloc),
+            pointers: Vec::new(alloc),
+        };
+        for place in 0..nodes.state.env().len() {
+            let x = VarId(place as u64);
+            if let Some(node) = nodes.sight.live_node(nodes.state, nodes.point, x) {
+                push_node(&mut live.all, nodes.state, node)?;
+                if nodes.sight.var_kind(x) == Kind::Ptr {
+                    push_node(&mut live.pointers, nodes.state, node)?;
+                }
+            }
+        }
+        Ok(live)
+    }
+
+    /// Whether a live variable stands at a node.
+    pub fn has(&self, state: &State, node: NodeId) -> bool {
+        is_in(state, self.all.as_slice(), node)
+    }
+
+    /// The nodes of live pointers, each once.
+    pub fn pointers(&self) -> &[NodeId] {
+        self.pointers.as_slice()
+    }
 }

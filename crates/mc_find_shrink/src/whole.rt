@@ -105,13 +105,14 @@ fn fold_with(
     Ok(None)
 }
 
-/// The first fold of a predicate at an edge.
+/// The first fold of a predicate at an edge; guesses leave out the edges that are used, and a cover takes none that is barred.
 fn fold_of(
     alloc: Global,
     manner: Manner<'_>,
     nodes: &Nodes<'_>,
     survey: &Survey,
     used: &[EdgeId],
+    barred: &[EdgeId],
     pred: PredId,
     at: NodeId,
     def: &Def,
@@ -128,7 +129,7 @@ fn fold_of(
         None,
         0,
     )?;
-    fold_with(alloc, manner, nodes, survey, used, pred, at, lists)
+    fold_with(alloc, manner, nodes, survey, barred, pred, at, lists)
 }
 
 /// The first fold into an inductive edge at an edge.
@@ -146,11 +147,14 @@ fn fold_at(
         Step::Coarse => survey.kept_ids.as_slice(),
         Step::Match => survey.kept_ids.as_slice(),
     };
+    let at = edge.start();
+    let with_kept = manner.step != Step::Whole;
+    let barred = survey.barred(alloc, nodes.state, at, with_kept)?;
+    let taken = barred.as_slice();
     for pred in manner.wanted {
         if let Some(def) = manner.sight.defs.as_slice().get(pred.0 as usize) {
             if may_begin(*pred, def, edge) {
-                let at = edge.start();
-                let found = fold_of(alloc, manner, nodes, survey, used, *pred, at, def)?;
+                let found = fold_of(alloc, manner, nodes, survey, used, taken, *pred, at, def)?;
                 if found.is_some() {
                     return Ok(found);
                 }
