@@ -13,7 +13,7 @@ use mc_lines::cert::{Form, Line};
 use std::alloc::Global;
 
 /// How many steps the first walk may take, if these are not more: so many for each point.
-const FIRST: u64 = 2_000;
+const FIRST: u64 = 500;
 
 /// How many steps the first walk may take for each point.
 const FIRST_EACH: u64 = 20;
