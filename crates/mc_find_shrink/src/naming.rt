@@ -130,8 +130,11 @@ fn first_name(params: usize, edge: &Edge, name: u64) -> Option<Term> {
     let Edge::Block { fields, .. } = edge else {
         return None;
     };
-    let field = (name as usize).checked_sub(params)?.checked_sub(1)?;
-    fields.as_slice().get(field).copied().flatten().map(plain)
+    let place = (name as usize).checked_sub(params.saturating_add(1))?;
+    match fields.as_slice().get(place) {
+        Some(Some(node)) => Some(plain(*node)),
+        _ => None,
+    }
 }
 
 /// The term of a name of a predicate's rule at a block, as far as it follows without the arguments.
