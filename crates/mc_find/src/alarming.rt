@@ -5,7 +5,7 @@ ghost use Rattle.mc_find.specs.Analysis.Findings.{IsFound, IsProposed};
 
 use crate::accepted::reported;
 use crate::analysis::Proposed;
-use crate::finding::{all_steps, certified};
+use crate::finding::{certified, chain_steps};
 use crate::rank::Rank;
 use crate::walks::{Aim, Attempt, Blocked, Limits, Rung, Step, Style, Task, first_rung};
 use mc_base::NoMemory;
@@ -179,7 +179,7 @@ fn try_begun<'a>(
 {
     let mut attempt = begun;
     let first = if faults.is_empty() {
-        all_steps(task) / 8
+        chain_steps(task)
     } else {
         0
     };

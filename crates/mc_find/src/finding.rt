@@ -16,6 +16,9 @@ const EACH: u64 = 500;
 /// So many steps it may take besides.
 const BESIDES: u64 = 20_000;
 
+/// A program of so many points has few cuts, whose plans are soon tried.
+const SMALL: u64 = 100;
+
 /// The number of heads of a cut with which a search is made again that was made with more.
 const KEYS: usize = 16;
 
@@ -23,6 +26,14 @@ const KEYS: usize = 16;
 pub fn all_steps(task: Task<'_>) -> u64 {
     let points = task.graph.size() as u64;
     points.saturating_mul(EACH).saturating_add(BESIDES)
+}
+
+/// How many steps an attempt at a chain may take while cuts get other plans: for each point beyond those of a small program half
+/// as many as one at a certificate, and an eighth of all at least.
+pub fn chain_steps(task: Task<'_>) -> u64 {
+    let points = task.graph.size() as u64;
+    let beyond = points.saturating_sub(SMALL).saturating_mul(EACH / 2);
+    beyond.max(all_steps(task) / 8)
 }
 
 /// How the attempt at a certificate folds; where it goes on as one at a chain, heads lose in the end.
