@@ -1,5 +1,5 @@
 // What the block of a rule holds.
-ghost use Rattle.std.specs.Prelude.{◌≡◌, ◌==◌, ◌&&◌, ◌++◌, Some, None, IfOk, map, option_map, if◌then◌else◌};
+ghost use Rattle.std.specs.Prelude.{◌≡◌, ◌==◌, ◌&&◌, ◌++◌, Some, None, IfOk, map, option_map, option_and_then, if◌then◌else◌};
 ghost use Rattle.mc_state.specs.Terms.{plain};
 ghost use Rattle.mc_state.specs.Known.{Test, Tells};
 ghost use Rattle.mc_cover.specs.Goals.{all_there, whole_block, contents_by};
@@ -13,8 +13,8 @@ use mc_state::Term;
 use mc_state::graph::Edge;
 use mc_symbolic::State;
 
-// Adds the nodes of fields, and answers whether all are known.
-fn push_fields(names: &mut Vec<Term>, fields: &[Option<NodeId>]) -> Result<bool, NoMemory>
+/// Adds the nodes of fields, and answers whether all are known.
+pub fn push_fields(names: &mut Vec<Term>, fields: &[Option<NodeId>]) -> Result<bool, NoMemory>
     ensures { IfOk result (λ all. (if all then Some names.new.items else None)
         ≡ option_map (λ nodes. names.old.items ++ map plain nodes) (all_there fields.now)) }
 {
@@ -34,17 +34,15 @@ fn is_there(state: &State, at: &Term, own: NodeId, shape: StructId, other: Struc
     other.0 == shape.0 && are_equal(state, at, &plain(own))
 }
 
-// Adds what a block of the struct at an equal node holds, and answers whether the edge is one and all its fields are known.
-fn push_block(
-    names: &mut Vec<Term>,
+// The fields of a block of the struct at an equal node. None where the edge is no such block.
+fn fields_of<'a>(
     state: &State,
     at: &Term,
     shape: StructId,
-    edge: &Edge,
-) -> Result<bool, NoMemory>
-    ensures { IfOk result (λ there. (know : Test) → Tells know state.now
-        → (if there then Some names.new.items else None)
-        ≡ option_map (λ nodes. names.old.items ++ map plain nodes) (whole_block know at.now shape edge.now)) }
+    edge: &'a Edge,
+) -> Option<&'a [Option<NodeId>]>
+    ensures { (know : Test) → Tells know state.now → option_and_then (λ fields. all_there fields.now) result
+        ≡ whole_block know at.now shape edge.now }
 {
     match edge {
         Edge::Block {
@@ -53,36 +51,38 @@ fn push_block(
             fields,
         } => {
             if !is_there(state, at, *own, shape, *other) {
-                return Ok(false);
+                return None;
             }
-            push_fields(names, fields.as_slice())
+            Some(fields.as_slice())
         }
-        Edge::Ind { .. } => Ok(false),
-        Edge::Seg { .. } => Ok(false),
+        Edge::Ind { .. } => None,
+        Edge::Seg { .. } => None,
     }
 }
 
-/// Adds what the block of a rule holds, and answers whether it is there with all fields known, or none is asked for.
-pub fn push_contents(
-    names: &mut Vec<Term>,
-    state: &State,
+/// The fields of the block of a rule, none where no block is asked for. None where it is not there.
+pub fn fields_by<'a>(
+    state: &'a State,
     used: &[EdgeId],
     at: &Term,
     block: Option<StructId>,
     id: Option<EdgeId>,
-) -> Result<bool, NoMemory>
-    ensures { IfOk result (λ there. (know : Test) → Tells know state.now
-        → (if there then Some names.new.items else None)
-        ≡ option_map (λ nodes. names.old.items ++ map plain nodes)
-        (contents_by know (free_edges state.now used.now) at.now block id)) }
+) -> Option<&'a [Option<NodeId>]>
+    ensures { (know : Test) → Tells know state.now → option_and_then (λ fields. all_there fields.now) result
+        ≡ contents_by know (free_edges state.now used.now) at.now block id }
 {
     match block {
-        None => Ok(id.is_none()),
+        None => {
+            if id.is_some() {
+                return None;
+            }
+            Some(&[])
+        }
         Some(shape) => match id {
-            None => Ok(false),
+            None => None,
             Some(id) => match free_edge(state, used, id) {
-                None => Ok(false),
-                Some(edge) => push_block(names, state, at, shape, edge),
+                None => None,
+                Some(edge) => fields_of(state, at, shape, edge),
             },
         },
     }

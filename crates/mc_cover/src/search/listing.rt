@@ -10,6 +10,9 @@ use mc_base::{EdgeId, NoMemory};
 use mc_flow::defs::{Def, Rule};
 use std::alloc::Global;
 
+// How many marks there is room for at first.
+const ROOM: usize = 16;
+
 // Adds each edge as an Ind.
 fn push_inds(all: &mut Vec<Mark>, ids: &[EdgeId]) -> Result<(), NoMemory>
     ensures { OnOk result (all.new.items ≡ all.old.items ++ map mark.ByInd ids.now) }
@@ -83,7 +86,8 @@ fn rules_of(def: Option<&Def>) -> &[Rule]
 pub fn marks_on(alloc: Global, ids: &[EdgeId], def: Option<&Def>) -> Result<Vec<Mark>, NoMemory>
     ensures { IfOk result (λ all. all.items ≡ marks_on ids.now (option_copied def.entry)) }
 {
-    let mut all = vec![in alloc; Mark::AtEnd]?;
+    let mut all = Vec::with_capacity(alloc, ROOM)?;
+    all.push(Mark::AtEnd)?;
     push_inds(&mut all, ids)?;
     push_segs(&mut all, ids)?;
     push_rules(&mut all, ids, rules_of(def))?;

@@ -22,6 +22,9 @@ use std::alloc::Global;
 /// The greatest offset, 2^62 + 2^32.
 const FARTHEST: i64 = 4_611_686_022_722_355_200;
 
+// How many names there is room for at first.
+const ROOM: usize = 8;
+
 /// The term of a name.
 pub fn term_at(names: &[Term], name: u64) -> Term
     ensures { result ≡ term_of names.now name }
@@ -172,7 +175,8 @@ fn push_fixed(names: &mut Vec<Term>, atoms: &[DefAtom]) -> Result<bool, NoMemory
 pub fn front_names(alloc: Global, goal: &Goal) -> Result<Vec<Term>, NoMemory>
     ensures { IfOk result (λ names. names.items ≡ goal.now.at ∷ goal.now.args) }
 {
-    let mut names = vec![in alloc; goal.at]?;
+    let mut names = Vec::with_capacity(alloc, ROOM)?;
+    names.push(goal.at)?;
     for arg in goal.args.as_slice() {
         names.push(*arg)?;
     }

@@ -17,7 +17,7 @@ ghost use Rattle.mc_state.specs.Terms.{plain, term_of};
 ghost use Rattle.mc_shape_search.specs.Tries.Stack.{IsArena, Pushes};
 
 use crate::Goal;
-use crate::search::contents::push_contents;
+use crate::search::contents::{fields_by, push_fields};
 use crate::search::laws::is_told;
 use crate::search::names::{front_names, names_with, term_at};
 use crate::search::terms::{all_lie_in, are_all_equal, are_equal, plain};
@@ -163,9 +163,12 @@ pub fn names_by(
         ≡ named_by (setting know defs state.now used.now) goal.now block def.now rule.now) }
 {
     is_told(state);
+    let Some(fields) = fields_by(state, used, &goal.at, rule.block, block) else {
+        return Ok(None);
+    };
     let mut names = front_names(alloc, goal)?;
     let front = names.len();
-    if !push_contents(&mut names, state, used, &goal.at, rule.block, block)? {
+    if !push_fields(&mut names, fields)? {
         return Ok(None);
     }
     let held = names.len() - front;
@@ -220,12 +223,11 @@ fn is_summary(
         ≡ (pred.0 == goal.now.pred.0 &&
         (equal_terms know goal.now.at (plain at) && all_equal_terms know goal.now.args (map plain args.now)))) }
 {
+    if pred.0 != goal.pred.0 || !are_equal(state, &goal.at, &plain(at)) {
+        return Ok(false);
+    }
     let terms = plain_terms(alloc, args)?;
-    Ok(
-        pred.0 == goal.pred.0
-            && (are_equal(state, &goal.at, &plain(at))
-                && are_all_equal(state, goal.args.as_slice(), &terms)),
-    )
+    Ok(are_all_equal(state, goal.args.as_slice(), &terms))
 }
 
 /// Whether an edge is an Ind that meets the goal.
