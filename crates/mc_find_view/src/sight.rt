@@ -4,10 +4,12 @@
 mod kinds;
 mod looking;
 mod naming;
+mod reaching;
 mod seen;
 mod sight;
 
 pub use looking::look;
 pub use naming::{Nodes, edge_names, is_dead_field};
+pub use reaching::{class_at, reached_edges};
 pub use seen::{Seen, are_alike};
 pub use sight::Sight;

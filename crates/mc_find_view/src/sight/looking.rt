@@ -1,5 +1,6 @@
 // A look at a state.
 use crate::sight::naming::is_dead_field;
+use crate::sight::reaching::{pointer_place, starts_at, starts_of};
 use crate::sight::{Seen, Sight};
 use mc_apply_unfold::is_back;
 use mc_base::{
@@ -11,21 +12,14 @@ use mc_state::{NodeKind, RawState};
 use mc_symbolic::State;
 use std::alloc::Global;
 
+/// For how many nodes there is room at first.
+const ROOM: usize = 16;
+
 /// A node that was met: where it stands in its class, and its number in the head.
 #[derive(Clone, Copy)]
 struct Met {
-    least: NodeId,
-    offset: i64,
+    place: ClassPlace,
     number: NodeId,
-}
-
-/// Where a node of a state that is not false stands in its class.
-fn class_at(state: &State, node: NodeId) -> Option<ClassPlace> {
-    let pure = state.known();
-    if pure.is_false() || !pure.has(node) {
-        return None;
-    }
-    Some(pure.class_of(node))
 }
 
 /// The one value that a node can have.
@@ -41,14 +35,6 @@ fn value_at(state: &State, node: NodeId) -> Option<i64> {
     }
 }
 
-/// Whether a node is equal to one that was met.
-fn is_met(state: &State, node: NodeId, met: Met) -> bool {
-    match class_at(state, node) {
-        Some(place) => place.least == met.least && place.offset == met.offset,
-        None => false,
-    }
-}
-
 /// A look at a state that is on its way.
 #[derive(Drop)]
 struct Viewing<'a> {
@@ -56,6 +42,7 @@ struct Viewing<'a> {
     sight: Sight<'a>,
     state: &'a State,
     point: PointId,
+    starts: Vec<Option<ClassPlace>>,
     vars: Vec<Option<NodeId>>,
     met: Vec<Met>,
     kinds: Vec<NodeKind>,
@@ -77,7 +64,7 @@ impl Viewing<'_> {
     /// The number of a pointer's node that was met.
     fn number_of(&self, place: &ClassPlace) -> Option<NodeId> {
         for each in self.met.as_slice() {
-            if each.least == place.least && each.offset == place.offset {
+            if each.place == *place {
                 return Some(each.number);
             }
         }
@@ -86,21 +73,14 @@ impl Viewing<'_> {
 
     /// The number of a pointer's node: 0 of null, one number for all equal nodes.
     fn pointer(&mut self, node: NodeId) -> Result<NodeId, NoMemory> {
-        let Some(place) = class_at(self.state, node) else {
+        let Some(place) = pointer_place(self.state, node) else {
             return Ok(NULL);
         };
-        if place.least == NULL && place.offset == 0 {
-            return Ok(NULL);
-        }
         if let Some(number) = self.number_of(&place) {
             return Ok(number);
         }
         let number = self.add(node, NodeKind::Ptr)?;
-        self.met.push(Met {
-            least: place.least,
-            offset: place.offset,
-            number,
-        })?;
+        self.met.push(Met { place, number })?;
         Ok(number)
     }
 
@@ -268,12 +248,9 @@ impl Viewing<'_> {
 
     /// Takes the edges that start at a node that was met.
     fn take_at(&mut self, met: Met) -> Result<(), NoMemory> {
-        let state = self.state;
-        for (place, entry) in state.edges().iter().enumerate() {
-            if !self.is_used(place) {
-                if is_met(state, entry.1.start(), met) {
-                    self.take(place)?;
-                }
+        for place in 0..self.state.edges().len() {
+            if !self.is_used(place) && starts_at(self.starts.as_slice(), place, met.place) {
+                self.take(place)?;
             }
         }
         Ok(())
@@ -294,7 +271,7 @@ impl Viewing<'_> {
 
     /// Whether a pointer's node was met.
     fn has_met(&self, node: NodeId) -> bool {
-        match class_at(self.state, node) {
+        match pointer_place(self.state, node) {
             Some(place) => self.number_of(&place).is_some(),
             None => false,
         }
@@ -392,19 +369,22 @@ pub fn look(
     state: &State,
     point: PointId,
 ) -> Result<Seen, NoMemory> {
+    let count = state.edges().len();
     let mut look = Viewing {
         alloc,
         sight,
         state,
         point,
+        starts: starts_of(alloc, state)?,
         vars: Vec::with_capacity(alloc, state.env().len())?,
-        met: Vec::new(alloc),
-        kinds: vec![in alloc; NodeKind::Zero]?,
-        images: vec![in alloc; NULL]?,
-        edges: Vec::new(alloc),
-        ids: Vec::new(alloc),
-        used: vec![in alloc; false; state.edges().len()]?,
+        met: Vec::with_capacity(alloc, ROOM)?,
+        kinds: Vec::with_capacity(alloc, ROOM)?,
+        images: Vec::with_capacity(alloc, ROOM)?,
+        edges: Vec::with_capacity(alloc, count)?,
+        ids: Vec::with_capacity(alloc, count)?,
+        used: vec![in alloc; false; count]?,
     };
+    look.add(NULL, NodeKind::Zero)?;
     look.number_variables()?;
     look.take_all()?;
     let whole = sight.all && state.is_whole() && look.has_all();
