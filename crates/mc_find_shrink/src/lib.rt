@@ -8,6 +8,7 @@ mod asked;
 mod folds;
 mod guessing;
 mod hiding;
+mod hopeless;
 mod keeping;
 mod naming;
 mod parts;

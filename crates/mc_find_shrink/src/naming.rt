@@ -123,7 +123,7 @@ pub fn partial_names(
 }
 
 /// The term of a name among those that come first: the start, the parameters, what the fields of a block hold.
-fn first_name(params: usize, edge: &Edge, name: u64) -> Option<Term> {
+pub fn first_name(params: usize, edge: &Edge, name: u64) -> Option<Term> {
     if name == 0 {
         return Some(plain(edge.start()));
     }

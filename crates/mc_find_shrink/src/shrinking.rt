@@ -10,9 +10,6 @@ use mc_lines::cert::Line;
 use mc_symbolic::State;
 use std::alloc::Global;
 
-/// The most folds of one state.
-const FOLDS: usize = 200;
-
 /// The first fold that there is.
 fn next_fold(
     alloc: Global,
@@ -85,26 +82,23 @@ fn fold(
     }
 }
 
-/// Folds a state, which must not be false, at a cut as far as it goes.
+/// Does the next fold of a state, which must not be false, at a cut; whether there is one. What blocks derive is written down
+/// before the first one.
 pub fn shrink(
     alloc: Global,
     manner: Manner<'_>,
     point: PointId,
     trail: &mut Trail<'_>,
-) -> Result<(), NoMemory> {
-    for round in 0..FOLDS {
-        let Some(state) = trail.state() else {
-            return Ok(());
-        };
-        let Some(found) = next_fold(alloc, manner, state, point)? else {
-            return Ok(());
-        };
-        if round == 0 {
-            note(trail)?;
-        }
-        if !fold(alloc, manner, trail, &found)? {
-            return Ok(());
-        }
+    is_first: bool,
+) -> Result<bool, NoMemory> {
+    let Some(state) = trail.state() else {
+        return Ok(false);
+    };
+    let Some(found) = next_fold(alloc, manner, state, point)? else {
+        return Ok(false);
+    };
+    if is_first {
+        note(trail)?;
     }
-    Ok(())
+    fold(alloc, manner, trail, &found)
 }

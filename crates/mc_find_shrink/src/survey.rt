@@ -2,9 +2,13 @@
 use crate::keeping::kept_blocks;
 use mc_base::{EdgeId, Kind, NoMemory, NodeId, PointId, PredId, VarId};
 use mc_find_view::live::Asserted;
-use mc_find_view::sight::{Nodes, Sight, look};
+use mc_find_view::sight::{Nodes, Sight, class_at, reached_edges};
+use mc_pure::ClassPlace;
 use mc_symbolic::State;
 use std::alloc::Global;
+
+/// For how many nodes there is room at first.
+const ROOM: usize = 8;
 
 /// How far folding goes.
 #[derive(Clone, Copy, Debug, PartialEq, Eq)]
@@ -32,10 +36,10 @@ pub struct Manner<'a> {
     pub room: i64,
 }
 
-/// The nodes of the live variables of a state, each once: of all, and of the pointers.
+/// The nodes of the live variables of a state, each once: where all stand in their classes, and those of the pointers.
 #[derive(Drop)]
 pub struct Live {
-    all: Vec<NodeId>,
+    places: Vec<ClassPlace>,
     pointers: Vec<NodeId>,
 }
 
@@ -57,7 +61,6 @@ impl Survey {
         state: &State,
         point: PointId,
     ) -> Result<Survey, NoMemory> {
-        let seen = look(alloc, manner.sight, state, point)?;
         let nodes = Nodes {
             sight: &manner.sight,
             state,
@@ -74,7 +77,7 @@ impl Survey {
             at_live.push(live.has(state, entry.1.start()))?;
         }
         Ok(Survey {
-            used: seen.used,
+            used: reached_edges(alloc, manner.sight, state, point)?,
             kept,
             kept_ids,
             live,
@@ -117,33 +120,34 @@ impl Survey {
     }
 }
 
-/// Adds a node to a list, unless it is equal to one of it.
-fn push_node(list: &mut Vec<NodeId>, state: &State, node: NodeId) -> Result<(), NoMemory> {
-    if !is_in(state, list.as_slice(), node) {
-        list.push(node)?;
+/// Adds a place to a list, if it is not there; whether it was not.
+fn push_place(list: &mut Vec<ClassPlace>, place: ClassPlace) -> Result<bool, NoMemory> {
+    if list.as_slice().contains(&place) {
+        return Ok(false);
     }
-    Ok(())
-}
-
-/// Whether a node is equal to one of a list.
-fn is_in(state: &State, list: &[NodeId], node: NodeId) -> bool {
-    list.contains(&node) || list.iter().any(|own| state.are_equal(*own, node))
+    list.push(place)?;
+    Ok(true)
 }
 
 impl Live {
     /// The nodes of the live variables.
     pub fn of(alloc: Global, nodes: &Nodes<'_>) -> Result<Live, NoMemory> {
         let mut live = Live {
-            all: Vec::new(alloc),
-            pointers: Vec::new(alloc),
+            places: Vec::with_capacity(alloc, ROOM)?,
+            pointers: Vec::with_capacity(alloc, ROOM)?,
         };
+        let mut pointers = Vec::with_capacity(alloc, ROOM)?;
         for place in 0..nodes.state.env().len() {
             let x = VarId(place as u64);
-            if let Some(node) = nodes.sight.live_node(nodes.state, nodes.point, x) {
-                push_node(&mut live.all, nodes.state, node)?;
-                if nodes.sight.var_kind(x) == Kind::Ptr {
-                    push_node(&mut live.pointers, nodes.state, node)?;
-                }
+            let Some(node) = nodes.sight.live_node(nodes.state, nodes.point, x) else {
+                continue;
+            };
+            let Some(place) = class_at(nodes.state, node) else {
+                continue;
+            };
+            push_place(&mut live.places, place)?;
+            if nodes.sight.var_kind(x) == Kind::Ptr && push_place(&mut pointers, place)? {
+                live.pointers.push(node)?;
             }
         }
         Ok(live)
@@ -151,7 +155,10 @@ impl Live {
 
     /// Whether a live variable stands at a node.
     pub fn has(&self, state: &State, node: NodeId) -> bool {
-        is_in(state, self.all.as_slice(), node)
+        match class_at(state, node) {
+            Some(place) => self.places.as_slice().contains(&place),
+            None => false,
+        }
     }
 
     /// The nodes of live pointers, each once.

@@ -1,6 +1,7 @@
 // Folds into inductive edges, and of segments that meet.
 use crate::folds::Found;
 use crate::hiding::{Fold, hides};
+use crate::hopeless::{Ground, takes_block};
 use crate::taken::taken_by;
 use crate::trying::candidates;
 use crate::{Manner, Step, Survey};
@@ -9,18 +10,10 @@ use mc_base::{EdgeId, NoMemory, NodeId, PredId};
 use mc_cover::Mark;
 use mc_find_paths::trail::{cover, plain};
 use mc_find_view::sight::Nodes;
-use mc_flow::defs::{Def, Rule};
+use mc_flow::defs::Def;
 use mc_state::Term;
 use mc_state::graph::Edge;
 use std::alloc::Global;
-
-/// Whether a rule has a block of the edge's struct.
-fn takes_block(rule: &Rule, edge: &Edge) -> bool {
-    match rule.block {
-        Some(shape) => edge.has_shape(shape),
-        None => false,
-    }
-}
 
 /// Whether a predicate may begin with an edge.
 pub fn may_begin(pred: PredId, def: &Def, edge: &Edge) -> bool {
@@ -138,6 +131,7 @@ fn fold_at(
     manner: Manner<'_>,
     nodes: &Nodes<'_>,
     survey: &Survey,
+    id: EdgeId,
     edge: &Edge,
 ) -> Result<Option<Found>, NoMemory> {
     let all: &[EdgeId] = &[];
@@ -151,9 +145,14 @@ fn fold_at(
     let with_kept = manner.step != Step::Whole;
     let barred = survey.barred(alloc, nodes.state, at, with_kept)?;
     let taken = barred.as_slice();
+    let ground = Ground {
+        manner,
+        state: nodes.state,
+        barred: taken,
+    };
     for pred in manner.wanted {
         if let Some(def) = manner.sight.defs.as_slice().get(pred.0 as usize) {
-            if may_begin(*pred, def, edge) {
+            if may_begin(*pred, def, edge) && ground.may_cover(id, edge, *pred, def) {
                 let found = fold_of(alloc, manner, nodes, survey, used, taken, *pred, at, def)?;
                 if found.is_some() {
                     return Ok(found);
@@ -174,7 +173,7 @@ pub fn first_whole(
     for (place, entry) in nodes.state.edges().iter().enumerate() {
         let stays = survey.is_kept(place) && manner.step != Step::Whole;
         if survey.is_used(place) && !stays {
-            let found = fold_at(alloc, manner, nodes, survey, &entry.1)?;
+            let found = fold_at(alloc, manner, nodes, survey, entry.0, &entry.1)?;
             if found.is_some() {
                 return Ok(found);
             }
