@@ -5,7 +5,7 @@ ghost use Rattle.mc_tries.specs.Found.{FaultsOnScript, IsFound, IsNoBlank};
 
 use crate::constants::constants_of;
 use crate::numbers::Numbers;
-use crate::search::{Candidate, find_candidates};
+use crate::search::{Candidate, Effort, Tried, try_runs};
 use crate::shorten::joined;
 use crate::walk::{STEPS, Task};
 use mc_base::text::Place;
@@ -18,6 +18,12 @@ use mc_run_values::script::{NamedStructs, struct_texts};
 use mc_semantics::resolved::Resolved;
 use std::alloc::Global;
 
+// How many steps all runs for scripts make together at most.
+const STEPS_FOR_SCRIPTS: u64 = 3_000_000;
+
+// How many steps all runs for faults make together at most.
+const STEPS_FOR_FAULTS: u64 = 5_000;
+
 /// A script, and the fault of a program's run on it.
 #[derive(Drop)]
 pub struct Found {
@@ -26,17 +32,20 @@ pub struct Found {
     pub script: Vec<u8>,
 }
 
-// The candidates for some places of a resolved program, none of which was run as a whole.
-fn candidates_of(
+// Runs of a resolved program, none of whose candidates was run as a whole.
+fn runs_of(
     alloc: Global,
     bound: &Bound,
     program: Program<'_>,
     numbers: &Numbers,
     places: &[Place],
-    runs: u64,
-) -> Result<Vec<Candidate>, NoMemory> {
+    effort: Effort,
+) -> Result<Tried, NoMemory> {
     let Some(entry) = program.resolved.functions.get(program.resolved.entry) else {
-        return Ok(Vec::new(alloc));
+        return Ok(Tried {
+            candidates: Vec::new(alloc),
+            faults: Vec::new(alloc),
+        });
     };
     let task = Task {
         alloc,
@@ -45,18 +54,18 @@ fn candidates_of(
         entry,
         numbers,
     };
-    find_candidates(task, places, runs)
+    try_runs(task, places, effort)
 }
 
 // The same, with the names of its structs.
-fn candidates_with(
+fn runs_with(
     alloc: Global,
     bound: &Bound,
     resolved: &Resolved,
     structs: &NamedStructs<'_>,
     places: &[Place],
-    runs: u64,
-) -> Result<Vec<Candidate>, NoMemory> {
+    effort: Effort,
+) -> Result<Tried, NoMemory> {
     let constants = constants_of(alloc, resolved, bound.defs().as_slice())?;
     let numbers = Numbers::of(alloc, constants.as_slice())?;
     let program = Program {
@@ -64,21 +73,21 @@ fn candidates_with(
         defs: bound.defs(),
         structs,
     };
-    candidates_of(alloc, bound, program, &numbers, places, runs)
+    runs_of(alloc, bound, program, &numbers, places, effort)
 }
 
-// The candidates for some places of a program.
-fn candidates(
+// Runs of a program, for candidates for some places.
+fn runs_for(
     alloc: Global,
     bound: &Bound,
     places: &[Place],
-    runs: u64,
-) -> Result<Vec<Candidate>, NoMemory> {
+    effort: Effort,
+) -> Result<Tried, NoMemory> {
     let resolved = resolve(alloc, bound)?;
     let infos = bound.typed().structs().list.as_slice();
     let texts = struct_texts(alloc, infos)?;
     let structs = NamedStructs::of(alloc, infos, texts.as_slice())?;
-    candidates_with(alloc, bound, &resolved, &structs, places, runs)
+    runs_with(alloc, bound, &resolved, &structs, places, effort)
 }
 
 // Whether no byte is a blank.
@@ -178,6 +187,25 @@ pub fn scripts(
     if places.is_empty() || runs == 0 {
         return Ok(Vec::new(alloc));
     }
-    let candidates = candidates(alloc, bound, places, runs)?;
-    all_confirmed(alloc, bound, candidates.as_slice())
+    let effort = Effort {
+        runs,
+        steps: STEPS_FOR_SCRIPTS,
+    };
+    let tried = runs_for(alloc, bound, places, effort)?;
+    all_confirmed(alloc, bound, tried.candidates.as_slice())
+}
+
+/// The faults to which so many runs of the program come, and their places, each once. Nothing is claimed of them: the runs' lines
+/// are not kept.
+pub fn faults(
+    alloc: Global,
+    bound: &Bound,
+    runs: u64,
+) -> Result<Vec<(FaultKind, Place)>, NoMemory> {
+    let effort = Effort {
+        runs,
+        steps: STEPS_FOR_FAULTS,
+    };
+    let tried = runs_for(alloc, bound, &[], effort)?;
+    Ok(tried.faults)
 }

@@ -18,4 +18,4 @@ mod slots;
 mod style;
 mod walk;
 
-pub use found::{Found, scripts};
+pub use found::{Found, faults, scripts};

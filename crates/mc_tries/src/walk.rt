@@ -6,7 +6,7 @@ use crate::making::{Made, Wanted, make};
 use crate::numbers::Numbers;
 use crate::style::Style;
 use mc_base::text::Place;
-use mc_base::{NoMemory, StructId};
+use mc_base::{FaultKind, NoMemory, StructId};
 use mc_flow::defs::StructInfo;
 use mc_flow::heap::Heap;
 use mc_run::{End, Machine, Program, Stepped};
@@ -71,7 +71,7 @@ fn asked_by<'a>(next: Next<'a>) -> Request<'a> {
 /// The end of a run, where it had one, and its lines.
 #[derive(Drop)]
 pub struct Walked {
-    pub fault: Option<Place>,
+    pub fault: Option<(FaultKind, Place)>,
     pub lines: Vec<Vec<u8>>,
     pub steps: u64,
 }
@@ -217,13 +217,13 @@ impl<'a> Walk<'a> {
         Ok(Stepped::Stuck)
     }
 
-    // What the run comes to: the place of its fault, if it has one, and its steps.
-    fn run(&mut self, draws: &mut Draws) -> Result<(Option<Place>, u64), NoMemory> {
+    // What the run comes to: its fault and the place of it, if it has one, and its steps.
+    fn run(&mut self, draws: &mut Draws) -> Result<(Option<(FaultKind, Place)>, u64), NoMemory> {
         for steps in 0..STEPS {
             let next = self.machine.work.arrive()?;
             match self.step(draws, next)? {
                 Stepped::Goes => {}
-                Stepped::Ends(End::Fault(_, place)) => return Ok((Some(place), steps)),
+                Stepped::Ends(End::Fault(kind, place)) => return Ok((Some((kind, place)), steps)),
                 _ => return Ok((None, steps)),
             }
         }
