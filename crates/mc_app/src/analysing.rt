@@ -13,9 +13,12 @@ ghost use Rattle.mc_app.specs.Checks.{IsSafeUnit, IsSafeWhereTold};
 use crate::Answer;
 use crate::tried::with_scripts;
 use crate::words::Analyse;
+use mc_base::text::Place;
+use mc_base::{FaultKind, NoMemory};
 use mc_c_check::Bound;
 use mc_c_grammar::places::ascending_places_differ;
 use mc_exact::{closed_alarms_are_marked, marks_are_exact};
+use mc_find::Runs;
 use mc_find::analysis::{Analysis, Findings, Settings, analyse};
 use mc_kernel::{certificates_are_safe, last_pass_finds_faults};
 use mc_load::inputs::{Sources, read};
@@ -25,6 +28,7 @@ use mc_lower_laws::closed::closed_programs_ask_for_malloc_alone;
 use mc_lower_laws::scoped::{faults_are_in_flow_graphs, safe_flow_graphs_mean_safe_trees};
 use mc_outside::{FileFault, Files};
 use mc_real::marked_alarms_are_real;
+use mc_tries::faults;
 use std::alloc::{AllocError, Global};
 
 /// What the analysis of a program comes to, where the program and its definitions fit.
@@ -35,6 +39,21 @@ pub enum Analysed {
     Found(Analysis),
     /// Alarms, so many, and their report with scripts that were found by running.
     Tried(Findings, u64, Vec<u8>),
+}
+
+// How many runs are tried before a search goes on.
+const FEW: u64 = 100;
+
+// A few runs of a program.
+#[derive(Drop)]
+struct FewRuns<'a> {
+    bound: &'a Bound,
+}
+
+impl Runs for FewRuns<'_> {
+    fn faults(&self, alloc: Global) -> Result<Vec<(FaultKind, Place)>, NoMemory> {
+        faults(alloc, self.bound, FEW)
+    }
 }
 
 // How the words want a flow graph to be analysed.
@@ -72,7 +91,8 @@ fn analyse_bound(alloc: Global, names: Analyse<'_>, bound: &Bound) -> Result<Ana
     let defs = bound.defs();
     match graph(alloc, bound)? {
         Ok(lowered) => {
-            let found = analyse(alloc, &lowered.flow, defs, settings(names))?;
+            let runs = FewRuns { bound };
+            let found = analyse(alloc, &lowered.flow, defs, settings(names), &runs)?;
             Ok(Analysed::Found(found))
         }
         Err(_) => Ok(Analysed::TooLong),

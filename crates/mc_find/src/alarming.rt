@@ -5,7 +5,7 @@ ghost use Rattle.mc_find.specs.Analysis.Findings.{IsFound, IsProposed};
 
 use crate::accepted::reported;
 use crate::analysis::Proposed;
-use crate::finding::{certified, chain_steps};
+use crate::finding::{all_steps, certified, chain_steps};
 use crate::rank::Rank;
 use crate::walks::{Aim, Attempt, Blocked, Limits, Rung, Step, Style, Task, first_rung};
 use mc_base::NoMemory;
@@ -13,10 +13,16 @@ use mc_lines::cert::{Form, Line};
 use std::alloc::Global;
 
 /// How many steps the first walk may take, if these are not more: so many for each point.
-const FIRST: u64 = 500;
+const FIRST: u64 = 200;
 
 /// How many steps the first walk may take for each point.
-const FIRST_EACH: u64 = 20;
+const FIRST_EACH: u64 = 8;
+
+/// How many steps more it may take where it has met nothing, if these are not more: so many for each point.
+const MORE: u64 = 300;
+
+/// How many steps more it may take for each point.
+const MORE_EACH: u64 = 12;
 
 /// How many steps an attempt may take, if these are not more: so many for each point.
 const STEPS: u64 = 20_000;
@@ -26,6 +32,53 @@ const STEPS_EACH: u64 = 100;
 
 /// How many attempts may take all their steps.
 const WHOLE: u64 = 4;
+
+/// The faults that are known of a program, and whether they are met soon: by a first walk, before anything is folded.
+#[derive(Drop)]
+pub struct Known {
+    faults: Vec<Blocked>,
+    are_near: bool,
+}
+
+impl Known {
+    /// No fault.
+    pub fn nothing(alloc: Global) -> Known {
+        Known::near(Vec::new(alloc))
+    }
+
+    /// Faults that are met soon.
+    pub fn near(faults: Vec<Blocked>) -> Known {
+        Known {
+            faults,
+            are_near: true,
+        }
+    }
+
+    /// Faults to which runs come.
+    pub fn far(faults: Vec<Blocked>) -> Known {
+        Known {
+            faults,
+            are_near: false,
+        }
+    }
+
+    /// Whether there is a fault, which is met soon.
+    fn has_near(&self) -> bool {
+        self.are_near && !self.faults.is_empty()
+    }
+
+    /// How many steps an attempt that has begun may take while its cuts get other plans: where a fault is far away, as many as
+    /// one at a certificate.
+    fn begun_steps(&self, task: Task<'_>) -> u64 {
+        if self.faults.is_empty() {
+            chain_steps(task)
+        } else if self.are_near {
+            0
+        } else {
+            all_steps(task)
+        }
+    }
+}
 
 /// So many steps, or so many for each point.
 fn at_least(task: Task<'_>, steps: u64, each: u64) -> u64 {
@@ -89,6 +142,12 @@ pub fn first_faults(alloc: Global, task: Task<'_>) -> Result<Vec<Blocked>, NoMem
         limits,
         at_least(task, FIRST, FIRST_EACH),
     )?;
+    attempt.run()?;
+    let (soon, _) = attempt.blocked()?;
+    if !soon.is_empty() {
+        return Ok(soon);
+    }
+    attempt.give(at_least(task, MORE, MORE_EACH));
     attempt.run()?;
     let (places, _) = attempt.blocked()?;
     Ok(places)
@@ -164,26 +223,22 @@ fn try_style<'a>(
     }
 }
 
-/// An attempt at a certificate that goes on as one at a chain: where no fault is known, with other plans of its cuts first. Its
+/// An attempt at a certificate that goes on as one at a chain: where no fault is met soon, with other plans of its cuts first. Its
 /// lines, where it is a certificate after all.
 fn try_begun<'a>(
     alloc: Global,
     task: Task<'a>,
     limits: Limits,
-    faults: &[Blocked],
+    known: &Known,
     begun: Attempt<'a>,
     offers: &mut Vec<Offer<'a>>,
 ) -> Result<Option<Vec<Line>>, NoMemory>
     requires { IsValid task.sight.flow.now task.sight.defs.now }
     ensures { IfOk result (λ found. IfSome found (λ lines. IsFound task.entry.sight.flow.now task.entry.sight.defs.now limits.merge lines.items)) }
 {
+    let faults = known.faults.as_slice();
     let mut attempt = begun;
-    let first = if faults.is_empty() {
-        chain_steps(task)
-    } else {
-        0
-    };
-    attempt.turn_to_chain(faults, first)?;
+    attempt.turn_to_chain(faults, known.begun_steps(task))?;
     let mut is_whole = attempt.run()?;
     if !is_whole {
         attempt.stop_blaming(at_least(task, STEPS, STEPS_EACH))?;
@@ -196,7 +251,7 @@ fn try_begun<'a>(
     }
 }
 
-/// Whether nothing better is looked for: no fault is met before anything is folded, or they are told as they are met.
+/// Whether nothing better is looked for: no fault is known, or they are told as they are known.
 fn is_settled(offers: &[Offer<'_>], faults: &[Blocked]) -> bool {
     match offers.last() {
         Some(best) => best.rank.is_best() || faults.is_empty(),
@@ -204,7 +259,7 @@ fn is_settled(offers: &[Offer<'_>], faults: &[Blocked]) -> bool {
     }
 }
 
-/// Whether what was found tells just the faults that are met before anything is folded.
+/// Whether what was found tells just the faults that are known.
 fn is_right(offers: &[Offer<'_>]) -> bool {
     match offers.last() {
         Some(best) => best.rank.is_right(),
@@ -233,18 +288,18 @@ fn after_begun<'a>(
     alloc: Global,
     task: Task<'a>,
     limits: Limits,
-    faults: &[Blocked],
+    known: &Known,
     begun: &mut Option<Attempt<'a>>,
     offers: &mut Vec<Offer<'a>>,
 ) -> Result<Option<Vec<Line>>, NoMemory>
     requires { IsValid task.sight.flow.now task.sight.defs.now }
     ensures { IfOk result (λ found. IfSome found (λ lines. IsFound task.entry.sight.flow.now task.entry.sight.defs.now limits.merge lines.items)) }
 {
-    if is_settled(offers.as_slice(), faults) || is_right(offers.as_slice()) {
+    if is_settled(offers.as_slice(), known.faults.as_slice()) || is_right(offers.as_slice()) {
         return Ok(None);
     }
     match begun.take() {
-        Some(attempt) => try_begun(alloc, task, limits, faults, attempt, offers),
+        Some(attempt) => try_begun(alloc, task, limits, known, attempt, offers),
         None => Ok(None),
     }
 }
@@ -295,14 +350,14 @@ fn best_of(
     Ok(None)
 }
 
-/// The attempts one after the other, where these faults are met before anything is folded, among them one at a certificate
-/// that has begun: it comes first where there is no fault, else after the first one. The chain that tells best what is met so,
-/// or a certificate after all. None says only that nothing was found.
+/// The attempts one after the other, where these faults are known, among them one at a certificate that has begun: it comes first
+/// where no fault is met soon, else after the first one. The chain that tells best what is known, or a certificate after all. None
+/// says only that nothing was found.
 pub fn try_all<'a>(
     alloc: Global,
     task: Task<'a>,
     limits: Limits,
-    faults: &[Blocked],
+    known: &Known,
     begun: Attempt<'a>,
 ) -> Result<Option<Proposed>, NoMemory>
     requires { IsValid task.sight.flow.now task.sight.defs.now }
@@ -311,8 +366,9 @@ pub fn try_all<'a>(
     let mut left = at_least(task, STEPS, STEPS_EACH).saturating_mul(WHOLE);
     let mut rest = Some(begun);
     let mut offers = Vec::new(alloc);
-    if faults.is_empty() {
-        let found = after_begun(alloc, task, limits, faults, &mut rest, &mut offers)?;
+    let faults = known.faults.as_slice();
+    if !known.has_near() {
+        let found = after_begun(alloc, task, limits, known, &mut rest, &mut offers)?;
         if let Some(lines) = found {
             return Ok(Some(Proposed::Certificate(lines)));
         }
@@ -324,7 +380,7 @@ pub fn try_all<'a>(
                 return Ok(Some(Proposed::Certificate(lines)));
             }
         }
-        let found = after_begun(alloc, task, limits, faults, &mut rest, &mut offers)?;
+        let found = after_begun(alloc, task, limits, known, &mut rest, &mut offers)?;
         if let Some(lines) = found {
             return Ok(Some(Proposed::Certificate(lines)));
         }

@@ -13,8 +13,10 @@ pub mod matching;
 mod orders;
 mod prepared;
 mod rank;
+mod runs;
 mod searching;
 pub mod walks;
 
 pub use crate::walks::Limits;
+pub use runs::{NoRuns, Runs};
 pub use searching::search;

@@ -2,7 +2,7 @@
 use crate::walks::{Attempt, Blocked, count_missing};
 use mc_base::NoMemory;
 
-/// How well a chain tells the faults of a program; less is better. How many of those that are met before anything is folded
+/// How well a chain tells the faults of a program; less is better. How many of those that are known
 /// it leaves out, and how many it has besides; how many alarms it has beyond a few at each place; whether a head has lost
 /// something; and how many alarms and lines it has.
 #[derive(Clone, Copy)]
@@ -19,7 +19,7 @@ pub struct Rank {
 const FEW: u64 = 3;
 
 impl Rank {
-    /// The rank of an attempt's chain, where these faults are met before anything is folded.
+    /// The rank of an attempt's chain, where these faults are known.
     pub fn of(attempt: &Attempt<'_>, faults: &[Blocked]) -> Result<Rank, NoMemory> {
         let (places, alarms) = attempt.blocked()?;
         let few = (places.len() as u64).saturating_mul(FEW);
@@ -33,7 +33,7 @@ impl Rank {
         })
     }
 
-    /// Whether the faults that are told are just those that are met before anything is folded.
+    /// Whether the faults that are told are just those that are known.
     pub fn is_right(&self) -> bool {
         self.missed == 0 && self.besides == 0
     }

@@ -3,15 +3,19 @@ ghost use Rattle.std.specs.Prelude.{IfOk, IfSome};
 ghost use Rattle.mc_flow.specs.Valid.{IsValid};
 ghost use Rattle.mc_find.specs.Analysis.Findings.{IsProposed};
 
-use crate::alarming::{first_faults, try_all};
+use crate::alarming::{Known, first_faults, try_all};
 use crate::analysis::Proposed;
 use crate::finding::{all_steps, certified, new_attempt, other_certificate};
 use crate::prepared::Prepared;
-use crate::walks::{Attempt, Limits, Task};
+use crate::runs::Runs;
+use crate::walks::{Attempt, Limits, Task, blocked_by_runs};
 use mc_base::NoMemory;
 use mc_flow::{Defs, Flow};
 use mc_lines::cert::Line;
 use std::alloc::Global;
+
+/// Of the steps of an attempt, this part is taken before runs are tried.
+const FIRST_PART: u64 = 4;
 
 /// A certificate of an attempt that is whole, or else chains of further ones.
 fn settle(
@@ -29,17 +33,18 @@ fn settle(
         Some(lines) => Ok(Some(Proposed::Certificate(lines))),
         None => {
             let begun = new_attempt(alloc, task, limits, 0)?;
-            try_all(alloc, task, limits, &[], begun)
+            try_all(alloc, task, limits, &Known::nothing(alloc), begun)
         }
     }
 }
 
-/// What is found after an attempt that found nothing by the plan with which each cut begins. Where a fault is met before
-/// anything is folded there is no certificate: folding only forgets, so each other plan would be blocked there.
-fn search_on(
+/// What is found where no fault is met soon: other plans are tried a while, then a few runs. Where one of them comes to a fault
+/// there is no certificate; else the plans that are left are tried.
+fn search_plans<R: Runs>(
     alloc: Global,
     task: Task<'_>,
     limits: Limits,
+    runs: &R,
     begun: Attempt<'_>,
 ) -> Result<Option<Proposed>, NoMemory>
     requires { IsValid task.sight.flow.now task.sight.defs.now }
@@ -48,21 +53,56 @@ fn search_on(
         (λ proposed. IsProposed task.entry.sight.flow.now task.entry.sight.defs.now limits.merge proposed)) }
 {
     let mut attempt = begun;
-    let faults = first_faults(alloc, task)?;
-    if faults.is_empty() {
-        attempt.blame_cuts();
+    attempt.blame_cuts();
+    let rest = attempt.keep_back(all_steps(task) / FIRST_PART);
+    if attempt.run()? {
+        return settle(alloc, task, limits, attempt);
+    }
+    if attempt.left() == 0 {
+        let faults = blocked_by_runs(alloc, runs.faults(alloc)?.as_slice())?;
+        if !faults.is_empty() {
+            return try_all(alloc, task, limits, &Known::far(faults), attempt);
+        }
+        attempt.give(rest);
         if attempt.run()? {
             return settle(alloc, task, limits, attempt);
         }
-        if let Some(lines) = other_certificate(alloc, task, limits)? {
-            return Ok(Some(Proposed::Certificate(lines)));
-        }
     }
-    try_all(alloc, task, limits, faults.as_slice(), attempt)
+    match other_certificate(alloc, task, limits)? {
+        Some(lines) => Ok(Some(Proposed::Certificate(lines))),
+        None => try_all(alloc, task, limits, &Known::nothing(alloc), attempt),
+    }
+}
+
+/// What is found after an attempt that found nothing by the plan with which each cut begins. Where a fault is met before
+/// anything is folded there is no certificate: folding only forgets, so each other plan would be blocked there.
+fn search_on<R: Runs>(
+    alloc: Global,
+    task: Task<'_>,
+    limits: Limits,
+    runs: &R,
+    begun: Attempt<'_>,
+) -> Result<Option<Proposed>, NoMemory>
+    requires { IsValid task.sight.flow.now task.sight.defs.now }
+    ensures { IfOk result
+        (λ found. IfSome found
+        (λ proposed. IsProposed task.entry.sight.flow.now task.entry.sight.defs.now limits.merge proposed)) }
+{
+    let faults = first_faults(alloc, task)?;
+    if faults.is_empty() {
+        search_plans(alloc, task, limits, runs, begun)
+    } else {
+        try_all(alloc, task, limits, &Known::near(faults), begun)
+    }
 }
 
 /// The attempts at a program: certificates first, then chains.
-fn search_task(alloc: Global, task: Task<'_>, limits: Limits) -> Result<Option<Proposed>, NoMemory>
+fn search_task<R: Runs>(
+    alloc: Global,
+    task: Task<'_>,
+    limits: Limits,
+    runs: &R,
+) -> Result<Option<Proposed>, NoMemory>
     requires { IsValid task.sight.flow.now task.sight.defs.now }
     ensures { IfOk result
         (λ found. IfSome found
@@ -72,7 +112,7 @@ fn search_task(alloc: Global, task: Task<'_>, limits: Limits) -> Result<Option<P
     if attempt.run()? {
         settle(alloc, task, limits, attempt)
     } else {
-        search_on(alloc, task, limits, attempt)
+        search_on(alloc, task, limits, runs, attempt)
     }
 }
 
@@ -81,15 +121,16 @@ fn search_task(alloc: Global, task: Task<'_>, limits: Limits) -> Result<Option<P
 /// Its cuts are the loop heads, the points where the two ways of an `if` meet if that is asked for, and further ones where too
 /// many branches would come together. It ends no more than 65,536 branches. A search may give up: None says only that nothing
 /// was found.
-pub fn search(
+pub fn search<R: Runs>(
     alloc: Global,
     flow: &Flow,
     defs: &Defs,
     limits: Limits,
+    runs: &R,
 ) -> Result<Option<Proposed>, NoMemory>
     requires { IsValid flow.now defs.now }
     ensures { IfOk result (λ found. IfSome found (λ proposed. IsProposed flow.now defs.now limits.merge proposed)) }
 {
     let prepared = Prepared::of(alloc, flow, defs, limits.merge)?;
-    search_task(alloc, prepared.task(flow, defs), limits)
+    search_task(alloc, prepared.task(flow, defs), limits, runs)
 }

@@ -33,4 +33,4 @@ pub use crate::matching::Step;
 pub use attempt::Attempt;
 pub use graph::Graph;
 pub use style::{Aim, Limits, Rung, Style, Task, first_rung};
-pub use walked::{Blocked, count_missing};
+pub use walked::{Blocked, blocked_by_runs, count_missing};

@@ -8,6 +8,7 @@ ghost use Rattle.mc_app.specs.Demo.Seen.{IsSeen, IsSeenOf, IsSeenWith, start};
 
 use crate::documents::verdict_on;
 use mc_c_check::Bound;
+use mc_find::NoRuns;
 use mc_find::analysis::{Analysis, Settings, analyse};
 use mc_flow::{Defs, Flow};
 use mc_gen::definitions;
@@ -90,7 +91,7 @@ fn of_flow(alloc: Global, flow: &Flow, defs: &Defs) -> Result<Seen, AllocError>
     // For the proof alone: a chain of one pass is a final legal chain, and there is what tells so.
     lores_are_there();
     short_chains_are_legal();
-    match analyse(alloc, flow, defs, SETTINGS)? {
+    match analyse(alloc, flow, defs, SETTINGS, &NoRuns)? {
         Analysis::Unknown => Ok(Seen::NotYet),
         Analysis::Paths(_) => Ok(Seen::Paths),
         Analysis::Safe(findings) => {

@@ -6,7 +6,7 @@ ghost use Rattle.mc_kernel.specs.Certificates.{IsValidCertificate};
 ghost use Rattle.mc_find.specs.Analysis.Findings.{HasAlarms, HasTooManyPaths, IsAnalysis, IsFollowedWhole, IsFound, IsProposed, IsProved, IsReported, stays, under_header};
 
 use crate::analysis::{Analysis, Findings, Proposed, Settings};
-use crate::search;
+use crate::{Runs, search};
 use mc_base::NoMemory;
 use mc_flow::{Defs, Flow};
 use mc_follow::alarms::{Document, Outcome, alarms};
@@ -129,16 +129,17 @@ fn followed(alloc: Global, flow: &Flow, defs: &Defs, chain: Document) -> Result<
 }
 
 // The lines of a certificate, where a search finds one; a chain that it finds counts for nothing.
-fn certificate(
+fn certificate<R: Runs>(
     alloc: Global,
     flow: &Flow,
     defs: &Defs,
     settings: Settings,
+    runs: &R,
 ) -> Result<Option<Vec<Line>>, NoMemory>
     requires { IsValid flow.now defs.now }
     ensures { IfOk result (λ found. IfSome found (λ lines. IsFound flow.now defs.now settings.merge lines.items)) }
 {
-    match search(alloc, flow, defs, settings.limits())? {
+    match search(alloc, flow, defs, settings.limits(), runs)? {
         Some(Proposed::Certificate(lines)) => Ok(Some(lines)),
         Some(Proposed::Chain(_, _)) => Ok(None),
         None => Ok(None),
@@ -147,18 +148,19 @@ fn certificate(
 
 // What comes of a program with so many branches that not all are followed: a certificate, where one is found whose cuts let
 // branches come together, or the front of the chain.
-fn with_many_paths(
+fn with_many_paths<R: Runs>(
     alloc: Global,
     flow: &Flow,
     defs: &Defs,
     settings: Settings,
+    runs: &R,
     lines: Vec<Line>,
 ) -> Result<Analysis, NoMemory>
     requires valid { IsValid flow.now defs.now }
     requires crowded { IsCrowded flow.now defs.now lines.items }
     ensures { IfOk result (IsAnalysis flow.now defs.now settings.merge) }
 {
-    match certificate(alloc, flow, defs, settings)? {
+    match certificate(alloc, flow, defs, settings, runs)? {
         Some(found) => {
             let findings = proved(alloc, flow, defs, found.as_slice())?;
             Ok(Analysis::Safe(findings))
@@ -171,11 +173,12 @@ fn with_many_paths(
 }
 
 // Where there are no loops, every branch is followed to its end.
-fn without_loops(
+fn without_loops<R: Runs>(
     alloc: Global,
     flow: &Flow,
     defs: &Defs,
     settings: Settings,
+    runs: &R,
 ) -> Result<Analysis, NoMemory>
     requires valid { IsValid flow.now defs.now }
     requires no_loops { flow.now.heads ≡ [] }
@@ -184,7 +187,7 @@ fn without_loops(
 {
     match alarms(alloc, flow, defs)? {
         Outcome::Whole(chain) => followed(alloc, flow, defs, chain),
-        Outcome::Paths(lines) => with_many_paths(alloc, flow, defs, settings, lines),
+        Outcome::Paths(lines) => with_many_paths(alloc, flow, defs, settings, runs, lines),
     }
 }
 
@@ -214,35 +217,38 @@ fn answered(
 }
 
 // Where there are loops, or states are merged, a certificate is searched for, and else a chain.
-fn searched(
+fn searched<R: Runs>(
     alloc: Global,
     flow: &Flow,
     defs: &Defs,
     settings: Settings,
+    runs: &R,
 ) -> Result<Analysis, NoMemory>
     requires valid { IsValid flow.now defs.now }
     requires searched { IsFollowedWhole flow.now settings.merge → ⊥ }
     ensures { IfOk result (IsAnalysis flow.now defs.now settings.merge) }
 {
-    match search(alloc, flow, defs, settings.limits())? {
+    match search(alloc, flow, defs, settings.limits(), runs)? {
         Some(proposed) => answered(alloc, flow, defs, settings.merge, proposed),
         None => Ok(Analysis::Unknown),
     }
 }
 
-/// Analyses a flow graph: one without loops branch by branch, unless its states are to be merged, and others by a search.
-pub fn analyse(
+/// Analyses a flow graph: one without loops branch by branch, unless its states are to be merged, and others by a search, which runs of
+/// the program may advise.
+pub fn analyse<R: Runs>(
     alloc: Global,
     flow: &Flow,
     defs: &Defs,
     settings: Settings,
+    runs: &R,
 ) -> Result<Analysis, NoMemory>
     requires { IsValid flow.now defs.now }
     ensures { IfOk result (IsAnalysis flow.now defs.now settings.merge) }
 {
     if flow.heads.is_empty() && !settings.merge {
-        without_loops(alloc, flow, defs, settings)
+        without_loops(alloc, flow, defs, settings, runs)
     } else {
-        searched(alloc, flow, defs, settings)
+        searched(alloc, flow, defs, settings, runs)
     }
 }

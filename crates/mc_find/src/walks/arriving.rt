@@ -10,6 +10,9 @@ use mc_find_view::sight::Seen;
 use mc_lines::cert::Line;
 use mc_symbolic::State;
 
+/// The most folds of one state.
+const FOLDS: usize = 200;
+
 /// Where a branch lands: the head, the images of its nodes and the edges for its edges, and how the walk goes on.
 #[derive(Drop)]
 pub struct Landing {
@@ -129,19 +132,78 @@ impl Attempt<'_> {
         self.walk_left > 0
     }
 
-    /// Lands at a head.
+    /// Folds a state at a cut as far as it goes.
+    fn fold_whole(&self, cut: PointId, trail: &mut Trail<'_>) -> Result<(), NoMemory> {
+        for round in 0..FOLDS {
+            if !shrink(self.alloc, self.manner(cut), cut, trail, round == 0)? {
+                return Ok(());
+            }
+        }
+        Ok(())
+    }
+
+    /// What is seen of a state at a cut, and the head of that shape, if one is there.
+    fn look_for_head(
+        &self,
+        cut: PointId,
+        trail: &Trail<'_>,
+    ) -> Result<Option<(Seen, Option<usize>)>, NoMemory> {
+        let Some(state) = trail.state() else {
+            return Ok(None);
+        };
+        let seen = self.look_at(cut, state)?;
+        let found = self.head_like(cut, &seen, None);
+        Ok(Some((seen, found)))
+    }
+
+    /// Whether a head of a cut has as many edges as a state.
+    fn has_head_as_long(&self, cut: PointId, trail: &Trail<'_>) -> bool {
+        let Some(state) = trail.state() else {
+            return false;
+        };
+        let count = state.edges().len();
+        self.cuts.heads_of(cut).iter().any(|place| match self.heads.as_slice().get(*place) {
+            Some(head) => head.raw.edges.len() == count,
+            None => false,
+        })
+    }
+
+    /// Folds a state at a cut until it has the shape of a head that is there, or as far as it goes. What is seen of it then, and
+    /// that head.
+    fn fold_to_head(
+        &self,
+        cut: PointId,
+        trail: &mut Trail<'_>,
+    ) -> Result<Option<(Seen, Option<usize>)>, NoMemory> {
+        for round in 0..FOLDS {
+            if self.has_head_as_long(cut, trail) {
+                let looked = self.look_for_head(cut, trail)?;
+                if let Some((seen, Some(place))) = looked {
+                    return Ok(Some((seen, Some(place))));
+                }
+            }
+            if !shrink(self.alloc, self.manner(cut), cut, trail, round == 0)? {
+                break;
+            }
+        }
+        self.look_for_head(cut, trail)
+    }
+
+    /// Folds a state, and lands at a head.
     fn land_any(
         &mut self,
         cut: PointId,
         trail: &mut Trail<'_>,
         fresh: &[usize],
     ) -> Result<Option<Landing>, NoMemory> {
-        let Some(state) = trail.state() else {
+        let Some((seen, found)) = self.fold_to_head(cut, trail)? else {
             return Ok(None);
         };
-        let seen = self.look_at(cut, state)?;
-        if let Some(place) = self.head_like(cut, &seen, None) {
-            return Ok(Some(self.land(place, state, &seen)?));
+        if let Some(place) = found {
+            return match trail.state() {
+                Some(state) => Ok(Some(self.land(place, state, &seen)?)),
+                None => Ok(None),
+            };
         }
         if let Some(landing) = self.fit_head(cut, &seen, trail)? {
             return Ok(Some(landing));
@@ -163,8 +225,8 @@ impl Attempt<'_> {
             }
             None => return Ok(Way::Stuck),
         }
-        shrink(self.alloc, self.manner(cut), cut, &mut trail)?;
         if self.rung_at(cut).loses {
+            self.fold_whole(cut, &mut trail)?;
             return self.arrive_losing(cut, &mut trail, walked);
         }
         let Some(landing) = self.land_any(cut, &mut trail, walked.targets.as_slice())? else {

@@ -109,6 +109,18 @@ impl<'a> Attempt<'a> {
         self.left
     }
 
+    /// Leaves at most so many steps; how many more there were.
+    pub fn keep_back(&mut self, steps: u64) -> u64 {
+        let rest = self.left.saturating_sub(steps);
+        self.left = self.left.min(steps);
+        rest
+    }
+
+    /// Gives it so many steps more.
+    pub fn give(&mut self, steps: u64) {
+        self.left = self.left.saturating_add(steps);
+    }
+
     /// The rung that is reached at a cut.
     pub fn rung_at(&self, cut: PointId) -> Rung {
         match self.cuts.find(cut) {
@@ -225,7 +237,7 @@ impl<'a> Attempt<'a> {
         if let Some(head) = self.heads.get_mut(place) {
             if way == Way::On || self.aim == Aim::Faults {
                 head.walked = walked;
-                head.is_stale = is_lost || head.is_stale;
+                head.is_stale = is_lost || head.is_stale || way == Way::TooLong;
             } else {
                 head.is_stale = true;
                 if way == Way::Again {
@@ -246,7 +258,9 @@ impl<'a> Attempt<'a> {
         let way = self.walk(&mut walked)?;
         self.end_walk(&walked, left);
         if way == Way::On || self.aim == Aim::Faults {
-            self.is_entry_stale = self.is_entry_stale || self.has_lost_target(&walked);
+            self.is_entry_stale = self.is_entry_stale
+                || self.has_lost_target(&walked)
+                || way == Way::TooLong;
             self.entry = walked;
         } else {
             self.is_entry_stale = true;

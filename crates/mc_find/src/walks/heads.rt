@@ -14,8 +14,8 @@ use mc_symbolic::State;
 use std::alloc::Global;
 
 /// A state of a cut: as documents write it, and as lines change it; how often it changed; how many
-/// rounds it has had, whether it is new or has changed since the last one, and when that was; what is known of the branches from
-/// it, where these are of the state as it is now; and whether it lost what arrivals lack.
+/// rounds it has had, and whether it is new or has changed since the last one; what is known of the branches from it, where these
+/// are of the state as it is now; and whether it lost what arrivals lack.
 #[derive(Drop)]
 pub struct Head {
     pub cut: PointId,

@@ -26,9 +26,23 @@ impl Reaching {
     }
 }
 
-/// Whether one comes before another: a cut's component and a stamp.
-fn is_before(one: (PointId, u64), other: (PointId, u64)) -> bool {
-    one.0.0 < other.0.0 || (one.0 == other.0 && one.1 < other.1)
+/// The turn of a head: where its cut's component stands in the program, and its cut, and when it came or changed.
+#[derive(Clone, Copy)]
+struct Turn {
+    component: PointId,
+    cut: PointId,
+    stamp: u64,
+}
+
+/// Whether one turn comes before another.
+fn is_before(one: Turn, other: Turn) -> bool {
+    if one.component != other.component {
+        return one.component.0 < other.component.0;
+    }
+    if one.cut != other.cut {
+        return one.cut.0 < other.cut.0;
+    }
+    one.stamp < other.stamp
 }
 
 impl Attempt<'_> {
@@ -53,19 +67,26 @@ impl Attempt<'_> {
         Ok(reaching.marks)
     }
 
-    /// The order in which a head is walked from: what comes first in the program, then what came first.
-    fn turn_of(&self, head: &Head) -> (PointId, u64) {
+    /// The turn of a head. For faults alone only the time counts.
+    fn turn_of(&self, head: &Head) -> Turn {
         if self.aim == Aim::Faults {
-            return (PointId(0), head.stamp);
+            return Turn {
+                component: PointId(0),
+                cut: PointId(0),
+                stamp: head.stamp,
+            };
         }
-        let component = self.cuts.component(self.task.graph, head.cut);
-        (component, head.stamp)
+        Turn {
+            component: self.cuts.component(self.task.graph, head.cut),
+            cut: head.cut,
+            stamp: head.stamp,
+        }
     }
 
-    /// The head that is reached and from which branches have to be followed next.
+    /// The head that is reached and from which branches have to be followed next: of those whose turn is first the oldest.
     pub fn next_reached(&self) -> Result<Option<usize>, NoMemory> {
         let marks = self.reached(&[])?;
-        let mut best: Option<(usize, (PointId, u64))> = None;
+        let mut best: Option<(usize, Turn)> = None;
         for (place, is_reached) in marks.as_slice().iter().enumerate() {
             if !*is_reached {
                 continue;

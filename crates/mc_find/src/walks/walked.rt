@@ -1,6 +1,6 @@
 // What is known of a root whose branches were followed.
 use mc_base::text::Place;
-use mc_base::{NoMemory, PointId};
+use mc_base::{FaultKind, NoMemory, PointId};
 use mc_flow::Flow;
 use mc_lines::cert::Line;
 use mc_rules_steps::Gap;
@@ -9,11 +9,10 @@ use std::alloc::Global;
 /// The kinds of what an instruction may lack.
 #[derive(Clone, Copy, PartialEq, Eq)]
 pub enum Lack {
-    Variable,
+    Value,
     Block,
-    Failing,
+    Truth,
     Shape,
-    Field,
     Emptiness,
 }
 
@@ -75,11 +74,11 @@ impl Walked {
 /// The kind of a gap.
 fn lack_of(gap: Gap) -> Lack {
     match gap {
-        Gap::Uninit(_) => Lack::Variable,
+        Gap::Uninit(_) => Lack::Value,
         Gap::NoBlock(_) => Lack::Block,
-        Gap::Reached => Lack::Failing,
+        Gap::Reached => Lack::Truth,
         Gap::NoShape(_, _) => Lack::Shape,
-        Gap::UninitField(_, _) => Lack::Field,
+        Gap::UninitField(_, _) => Lack::Value,
         Gap::NotEmpty(_) => Lack::Emptiness,
     }
 }
@@ -93,6 +92,34 @@ pub fn blocked_at(flow: &Flow, point: PointId, gap: Gap) -> Option<Blocked> {
         }),
         None => None,
     }
+}
+
+/// What is lacking where a run comes to a fault.
+fn lack_at(kind: FaultKind) -> Lack {
+    match kind {
+        FaultKind::Null => Lack::Block,
+        FaultKind::Freed => Lack::Block,
+        FaultKind::Uninit => Lack::Value,
+        FaultKind::BadFree => Lack::Block,
+        FaultKind::Assertion => Lack::Truth,
+        FaultKind::Shape => Lack::Shape,
+        FaultKind::NotEmpty => Lack::Emptiness,
+    }
+}
+
+/// Where runs come to faults.
+pub fn blocked_by_runs(
+    alloc: Global,
+    faults: &[(FaultKind, Place)],
+) -> Result<Vec<Blocked>, NoMemory> {
+    let mut list = Vec::new(alloc);
+    for (kind, place) in faults {
+        list.push(Blocked {
+            place: *place,
+            lack: lack_at(*kind),
+        })?;
+    }
+    Ok(list)
 }
 
 /// Adds what is not in a list yet.
