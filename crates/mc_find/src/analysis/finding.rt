@@ -234,8 +234,8 @@ fn searched<R: Runs>(
     }
 }
 
-/// Analyses a flow graph: one without loops branch by branch, unless its states are to be merged, and others by a search, which runs of
-/// the program may advise.
+/// Analyses a flow graph: one without loops branch by branch, unless its states are to be merged, and others by a search, which
+/// runs of the program may advise.
 pub fn analyse<R: Runs>(
     alloc: Global,
     flow: &Flow,

@@ -178,8 +178,10 @@ impl Attempt<'_> {
         for round in 0..FOLDS {
             if self.has_head_as_long(cut, trail) {
                 let looked = self.look_for_head(cut, trail)?;
-                if let Some((seen, Some(place))) = looked {
-                    return Ok(Some((seen, Some(place))));
+                if let Some((seen, found)) = looked {
+                    if found.is_some() {
+                        return Ok(Some((seen, found)));
+                    }
                 }
             }
             if !shrink(self.alloc, self.manner(cut), cut, trail, round == 0)? {
