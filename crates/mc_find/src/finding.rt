@@ -22,6 +22,12 @@ const SMALL: u64 = 100;
 /// The number of heads of a cut with which a search is made again that was made with more.
 const KEYS: usize = 16;
 
+/// How many times as many heads a cut may have in a search that is made again since there were too many.
+const WIDER: usize = 2;
+
+/// How many steps that one may take.
+const STEPS: u64 = 24_000;
+
 /// How many steps an attempt at a certificate may take.
 pub fn all_steps(task: Task<'_>) -> u64 {
     let points = task.graph.size() as u64;
@@ -108,6 +114,32 @@ fn try_again(
     }
 }
 
+/// The limits with which the search is made again where cuts had too many heads.
+fn wider(limits: Limits) -> Limits
+    ensures { result.merge ≡ limits.merge }
+{
+    Limits {
+        keys: limits.keys.saturating_mul(WIDER),
+        rounds: limits.rounds,
+        merge: limits.merge,
+    }
+}
+
+/// Another attempt by the first plan of each cut, with more heads.
+fn try_wider(alloc: Global, task: Task<'_>, limits: Limits) -> Result<Option<Vec<Line>>, NoMemory>
+    requires { IsValid task.sight.flow.now task.sight.defs.now }
+    ensures { IfOk result
+        (λ found. IfSome found
+        (λ lines. IsFound task.entry.sight.flow.now task.entry.sight.defs.now limits.merge lines.items)) }
+{
+    let mut attempt = new_attempt(alloc, task, wider(limits), STEPS)?;
+    if attempt.run()? {
+        certified(alloc, task, limits.merge, attempt)
+    } else {
+        Ok(None)
+    }
+}
+
 /// The limits with which the search is made again.
 fn fewer(limits: Limits) -> Limits
     ensures { result.merge ≡ limits.merge }
@@ -119,18 +151,25 @@ fn fewer(limits: Limits) -> Limits
     }
 }
 
-/// Further attempts after one that found nothing: with fewer heads where there may be many, and with the predicates in other
-/// orders, or without some. What more is wanted and allowed than is needed costs no proof so.
+/// Further attempts after one that found nothing: with more heads where there were too many, with fewer where there may be many, and
+/// with the predicates in other orders, or without some. What more is wanted and allowed than is needed costs no proof so.
 pub fn other_certificate(
     alloc: Global,
     task: Task<'_>,
     limits: Limits,
+    was_crowded: bool,
 ) -> Result<Option<Vec<Line>>, NoMemory>
     requires { IsValid task.sight.flow.now task.sight.defs.now }
     ensures { IfOk result
         (λ found. IfSome found
         (λ lines. IsFound task.entry.sight.flow.now task.entry.sight.defs.now limits.merge lines.items)) }
 {
+    if was_crowded {
+        let found = try_wider(alloc, task, limits)?;
+        if found.is_some() {
+            return Ok(found);
+        }
+    }
     let own = fewer(limits);
     let mut left = all_steps(task).saturating_mul(2);
     if own.keys < limits.keys {

@@ -68,7 +68,7 @@ fn search_plans<R: Runs>(
             return settle(alloc, task, limits, attempt);
         }
     }
-    match other_certificate(alloc, task, limits)? {
+    match other_certificate(alloc, task, limits, attempt.was_crowded())? {
         Some(lines) => Ok(Some(Proposed::Certificate(lines))),
         None => try_all(alloc, task, limits, &Known::nothing(alloc), attempt),
     }

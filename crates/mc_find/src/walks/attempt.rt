@@ -88,6 +88,11 @@ impl<'a> Attempt<'a> {
         self.blames = true;
     }
 
+    /// Whether a cut had too many heads, or too many rounds or steps.
+    pub fn was_crowded(&self) -> bool {
+        self.cuts.list().iter().any(|cut| cut.was_crowded)
+    }
+
     /// Lets it go on as an attempt at a chain, for which so many steps are left, where these faults are known to be met.
     pub fn turn_to_chain(&mut self, faults: &[Blocked], steps: u64) -> Result<(), NoMemory> {
         self.aim = Aim::Chain;
