@@ -20,13 +20,14 @@ const BESIDES: u64 = 20_000;
 const SMALL: u64 = 100;
 
 /// The number of heads of a cut with which a search is made again that was made with more.
-const KEYS: usize = 16;
+const FEW_HEADS: usize = 16;
 
-/// How many times as many heads a cut may have in a search that is made again since there were too many.
-const WIDER: usize = 2;
+/// The number of heads of a cut with which a search is made again since there were too many: four cursors over one list lie in
+/// 75 orders.
+const MANY_HEADS: usize = 128;
 
 /// How many steps that one may take.
-const STEPS: u64 = 24_000;
+const STEPS: u64 = 32_000;
 
 /// How many steps an attempt at a certificate may take.
 pub fn all_steps(task: Task<'_>) -> u64 {
@@ -119,7 +120,7 @@ fn wider(limits: Limits) -> Limits
     ensures { result.merge ≡ limits.merge }
 {
     Limits {
-        keys: limits.keys.saturating_mul(WIDER),
+        keys: limits.keys.max(MANY_HEADS),
         rounds: limits.rounds,
         merge: limits.merge,
     }
@@ -145,7 +146,7 @@ fn fewer(limits: Limits) -> Limits
     ensures { result.merge ≡ limits.merge }
 {
     Limits {
-        keys: limits.keys.min(KEYS),
+        keys: limits.keys.min(FEW_HEADS),
         rounds: limits.rounds,
         merge: limits.merge,
     }

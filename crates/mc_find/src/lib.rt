@@ -16,7 +16,8 @@ mod rank;
 mod runs;
 mod searching;
 pub mod walks;
+mod ways;
 
 pub use crate::walks::Limits;
 pub use runs::{NoRuns, Runs};
-pub use searching::search;
+pub use searching::{joined_ways, search};

@@ -1,7 +1,7 @@
 // The search for a certificate, or for alarms.
 ghost use Rattle.std.specs.Prelude.{IfOk, IfSome};
 ghost use Rattle.mc_flow.specs.Valid.{IsValid};
-ghost use Rattle.mc_find.specs.Analysis.Findings.{IsProposed};
+ghost use Rattle.mc_find.specs.Analysis.Findings.{IsFound, IsProposed};
 
 use crate::alarming::{Known, first_faults, try_all};
 use crate::analysis::Proposed;
@@ -9,6 +9,7 @@ use crate::finding::{all_steps, certified, new_attempt, other_certificate};
 use crate::prepared::Prepared;
 use crate::runs::Runs;
 use crate::walks::{Attempt, Limits, Task, blocked_by_runs};
+use crate::ways::count_ways;
 use mc_base::NoMemory;
 use mc_flow::{Defs, Flow};
 use mc_lines::cert::Line;
@@ -113,6 +114,33 @@ fn search_task<R: Runs>(
         settle(alloc, task, limits, attempt)
     } else {
         search_on(alloc, task, limits, runs, attempt)
+    }
+}
+
+/// A program without loops has many ways where it has more than this number.
+const MANY: u64 = 256;
+
+/// The lines of a valid certificate of a flow graph without loops, where many ways lead through it, and come together at cuts as
+/// the first plan folds.
+pub fn joined_ways(
+    alloc: Global,
+    flow: &Flow,
+    defs: &Defs,
+    limits: Limits,
+) -> Result<Option<Vec<Line>>, NoMemory>
+    requires { IsValid flow.now defs.now }
+    ensures { IfOk result (λ found. IfSome found (λ lines. IsFound flow.now defs.now limits.merge lines.items)) }
+{
+    if count_ways(alloc, flow)? <= MANY {
+        return Ok(None);
+    }
+    let prepared = Prepared::of(alloc, flow, defs, limits.merge)?;
+    let task = prepared.task(flow, defs);
+    let mut attempt = new_attempt(alloc, task, limits, all_steps(task))?;
+    if attempt.run()? {
+        certified(alloc, task, limits.merge, attempt)
+    } else {
+        Ok(None)
     }
 }
 

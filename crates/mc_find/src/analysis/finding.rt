@@ -6,7 +6,7 @@ ghost use Rattle.mc_kernel.specs.Certificates.{IsValidCertificate};
 ghost use Rattle.mc_find.specs.Analysis.Findings.{HasAlarms, HasTooManyPaths, IsAnalysis, IsFollowedWhole, IsFound, IsProposed, IsProved, IsReported, stays, under_header};
 
 use crate::analysis::{Analysis, Findings, Proposed, Settings};
-use crate::{Runs, search};
+use crate::{Runs, joined_ways, search};
 use mc_base::NoMemory;
 use mc_flow::{Defs, Flow};
 use mc_follow::alarms::{Document, Outcome, alarms};
@@ -172,7 +172,7 @@ fn with_many_paths<R: Runs>(
     }
 }
 
-// Where there are no loops, every branch is followed to its end.
+// Where there are no loops, every branch is followed to its end, unless there are many, and a certificate lets them come together.
 fn without_loops<R: Runs>(
     alloc: Global,
     flow: &Flow,
@@ -185,6 +185,10 @@ fn without_loops<R: Runs>(
     requires no_merge { settings.merge ≡ false }
     ensures { IfOk result (IsAnalysis flow.now defs.now settings.merge) }
 {
+    if let Some(lines) = joined_ways(alloc, flow, defs, settings.limits())? {
+        let findings = proved(alloc, flow, defs, lines.as_slice())?;
+        return Ok(Analysis::Safe(findings));
+    }
     match alarms(alloc, flow, defs)? {
         Outcome::Whole(chain) => followed(alloc, flow, defs, chain),
         Outcome::Paths(lines) => with_many_paths(alloc, flow, defs, settings, runs, lines),
